@@ -1,0 +1,20 @@
+//! Values of a dictionary, the lists that hold them, and the faults that several layers pass on.
+//!
+//! It promises that contracts see a [`Bytes`] or a [`ListOf`] as a plain list, that a growth which
+//! finds no memory leaves the list as it was, and that no other call takes memory.
+#![tactic(auto)]
+
+pub mod bytes;
+pub mod fault;
+pub mod list;
+pub mod value;
+
+pub use bytes::Bytes;
+pub use fault::{
+    BadRow, BlockFault, CallFault, Cause, Exit, FetchFault, LineFault, NoMemory, Why,
+};
+pub use list::ListOf;
+pub use value::{
+    Address, AttrType, BadValue, ColType, Fetched, FetchedRow, Field, Fields, KeyList, MaybeRow,
+    Prefix, Row, Rows, Value,
+};

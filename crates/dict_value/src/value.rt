@@ -1,0 +1,105 @@
+// Types, values, fields and rows, as plain data.
+use crate::bytes::Bytes;
+use crate::list::ListOf;
+
+/// The type of a column, NULL aside.
+#[derive(Clone, Copy, Debug, PartialEq, Eq)]
+pub enum ColType {
+    UInt8,
+    UInt16,
+    UInt32,
+    UInt64,
+    Int8,
+    Int16,
+    Int32,
+    Int64,
+    Str,
+    Date,
+    DateTime,
+    Uuid,
+    Ipv4,
+    Ipv6,
+    /// So many digits in all, and so many of them behind the point.
+    Decimal(u8, u8),
+}
+
+/// The type of a column.
+#[derive(Clone, Copy, Debug, PartialEq, Eq)]
+pub struct AttrType {
+    pub base: ColType,
+    pub nullable: bool,
+}
+
+/// A value of a column.
+#[derive(Debug, Drop)]
+pub enum Value {
+    Null,
+    U(u64),
+    I(i64),
+    S(Bytes),
+    /// The number of a day, from 1970-01-01.
+    Day(u16),
+    /// A second from the midnight UTC of 1970-01-01.
+    Second(u32),
+    Id(u128),
+    V4(u32),
+    V6(u128),
+    /// A Decimal as the scaled whole number.
+    Dec(i128),
+}
+
+/// A field of a row's text.
+#[derive(Debug, Drop)]
+pub enum Field {
+    Null,
+    Text(Bytes),
+}
+
+/// Why a field is no value of its type.
+#[derive(Clone, Copy, Debug, PartialEq, Eq)]
+pub enum BadValue {
+    NotANumber,
+    OutOfRange,
+    BadDate,
+    BadUuid,
+    BadAddress,
+    BadDecimal,
+    NullNotAllowed,
+    NoMemory,
+}
+
+/// The first bits of addresses of one family; bits past the length are 0.
+#[derive(Clone, Copy, Debug, PartialEq, Eq)]
+pub struct Prefix {
+    pub v6: bool,
+    pub bits: u128,
+    pub len: u8,
+}
+
+/// An address of either family.
+#[derive(Clone, Copy, Debug, PartialEq, Eq)]
+pub enum Address {
+    V4(u32),
+    V6(u128),
+}
+
+pub type Row = ListOf<Value>;
+pub type KeyList = ListOf<Value>;
+pub type Rows = ListOf<Row>;
+pub type Fields = ListOf<Field>;
+
+/// A fetched row, or that there is none.
+#[derive(Debug, Drop)]
+pub enum MaybeRow {
+    Absent,
+    Present(Row),
+}
+
+/// What a fetch that began at a moment gave for a key.
+#[derive(Debug, Drop)]
+pub struct FetchedRow {
+    pub moment: u64,
+    pub row: MaybeRow,
+}
+
+pub type Fetched = ListOf<FetchedRow>;
