@@ -5,12 +5,14 @@
 #![tactic(auto)]
 
 pub mod bytes;
+pub mod digits;
 pub mod fault;
 pub mod list;
 pub mod split;
 pub mod value;
 
 pub use bytes::Bytes;
+pub use digits::read_digits;
 pub use fault::{BadRow, BlockFault, CallFault, Cause, Exit, FetchFault, LineFault, NoMemory, Why};
 pub use list::ListOf;
 pub use split::split_at_byte;
