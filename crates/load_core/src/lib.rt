@@ -1,0 +1,11 @@
+//! The pure machine of loads, publications and callers, which every thread of the server moves by.
+//!
+//! It promises that a core steps by its table, that an event which its phase doesn't take is
+//! answered Refused and changes nothing, and that no step takes memory.
+#![tactic(auto)]
+
+pub mod caller;
+pub mod dictionary;
+
+pub use caller::{CallerCore, CallerEffect, CallerEvent};
+pub use dictionary::{DictCore, DictEffect, DictEvent, Ending, LastCause, Phase};
