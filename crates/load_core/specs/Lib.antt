@@ -1,2 +1,3 @@
-pub mod DictSteps
 pub mod CallerSteps
+pub mod DictSteps
+pub mod WorldSteps

@@ -6,6 +6,10 @@
 
 pub mod caller;
 pub mod dictionary;
+pub mod judge;
+pub mod world;
 
 pub use caller::{CallerCore, CallerEffect, CallerEvent};
 pub use dictionary::{DictCore, DictEffect, DictEvent, Ending, LastCause, Phase};
+pub use judge::Judge;
+pub use world::{Ended, World, WorldCaller, WorldDict, WorldEntry, WorldEvent};
