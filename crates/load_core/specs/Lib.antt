@@ -1,3 +1,4 @@
 pub mod CallerSteps
 pub mod DictSteps
+pub mod Laws
 pub mod WorldSteps

@@ -7,6 +7,7 @@
 pub mod caller;
 pub mod dictionary;
 pub mod judge;
+pub mod laws;
 pub mod world;
 
 pub use caller::{CallerCore, CallerEffect, CallerEvent};
