@@ -5,15 +5,17 @@
 #![tactic(auto)]
 
 pub mod bytes;
+pub mod digits;
 pub mod fault;
 pub mod list;
+pub mod split;
 pub mod value;
 
 pub use bytes::Bytes;
-pub use fault::{
-    BadRow, BlockFault, CallFault, Cause, Exit, FetchFault, LineFault, NoMemory, Why,
-};
+pub use digits::read_digits;
+pub use fault::{BadRow, BlockFault, CallFault, Cause, Exit, FetchFault, LineFault, NoMemory, Why};
 pub use list::ListOf;
+pub use split::split_at_byte;
 pub use value::{
     Address, AttrType, BadValue, ColType, Fetched, FetchedRow, Field, Fields, KeyList, MaybeRow,
     Prefix, Row, Rows, Value,

@@ -1,4 +1,5 @@
 pub mod CallerSteps
 pub mod DictSteps
 pub mod Laws
+pub mod StrictRows
 pub mod WorldSteps

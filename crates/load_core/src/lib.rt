@@ -8,9 +8,11 @@ pub mod caller;
 pub mod dictionary;
 pub mod judge;
 pub mod laws;
+pub mod strict;
 pub mod world;
 
 pub use caller::{CallerCore, CallerEffect, CallerEvent};
 pub use dictionary::{DictCore, DictEffect, DictEvent, Ending, LastCause, Phase};
 pub use judge::Judge;
+pub use strict::{TableFault, TextRow, read_table};
 pub use world::{Ended, World, WorldCaller, WorldDict, WorldEntry, WorldEvent};
