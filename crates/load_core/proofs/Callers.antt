@@ -1,8 +1,8 @@
 -- What holds of a caller after every list of events.
-use Rattle.std.proofs.Common.{◌≡◌, ◌≢◌, ℕ, ◌+◌, ◌-◌, ◌<◌, ◌≤◌, ◌⊎◌, max, zero, suc, List, [], ◌∷◌, ◌++◌, length, map, Option, Some, None, refl, sym, ◌∙◌, ap, subst, inl, inr, arith, append_assoc, get_or, slice_get, All}
+use Rattle.std.proofs.Common.{◌≡◌, ℕ, ◌+◌, ◌-◌, ◌≤◌, max, List, [], ◌∷◌, ◌++◌, length, map, Option, Some, refl, sym, ◌∙◌, ap, inl, inr, arith, append_assoc, get_or, slice_get, All}
 use Rattle.std.specs.List.{range_with_len}
 use Rattle.std.specs.List.Sorted.{IsNonDecreasing}
-use Rattle.std.proofs.lemmas.List.Elements.{All-nil, All-push, All-weaker, All-get_or}
+use Rattle.std.proofs.lemmas.List.Elements.{All-push, All-weaker, All-get_or}
 use Rattle.std.proofs.lemmas.List.Sorted.{IsNonDecreasingBy-push}
 use Rattle.load_core.specs.declared.world.WorldEvent.{WorldEvent}
 use Rattle.load_core.specs.declared.world.WorldEvent.TheVariants.{Enter}
@@ -10,10 +10,10 @@ use Rattle.load_core.specs.declared.world.WorldEntry.{WorldEntry}
 use Rattle.load_core.specs.declared.world.WorldDict.{WorldDict}
 use Rattle.load_core.specs.declared.world.WorldCaller.{WorldCaller}
 use Rattle.load_core.specs.declared.world.World.{World}
-use Rattle.load_core.specs.WorldSteps.{Verdicts, Step, Run, last_number, dict_at, caller_at, entered, learnt}
-use Rattle.load_core.specs.Laws.{entries_in, entries_of, answers_in, answers_of, IsLengthAtEnter}
+use Rattle.load_core.specs.WorldSteps.{Verdicts, Step, Run, last_number, caller_at, entered, learnt}
+use Rattle.load_core.specs.Laws.{entries_of, answers_in, IsLengthAtEnter}
 use Rattle.load_core.proofs.Lists.{slice_get-push}
-use Rattle.load_core.proofs.Runs.{run_more, IsShown, IsTold}
+use Rattle.load_core.proofs.Runs.{run_more}
 
 -- the last of the numbers from a on
 last_number_from : (a : ℕ) (entry : WorldEntry) (entries : List WorldEntry) → map (λ (e : WorldEntry). e.number) (entry ∷ entries) ≡ range_with_len a (length (entry ∷ entries)) → last_number (entry ∷ entries) ≡ a + length entries
@@ -71,18 +71,18 @@ module _ (judges : Verdicts) (first : World) where
     below = All-push (λ a. a ≤ max u.core.floor (last_number x.entries)) u.answers (last_number x.entries) (All-weaker (λ a. a ≤ u.core.floor) (λ a. a ≤ max u.core.floor (last_number x.entries)) (λ a k. omega arith) u.answers h.below) (omega arith);
     ordered = IsNonDecreasingBy-push (λ n. n) u.answers (last_number x.entries) h.ordered (λ n k. let b : get_or u.answers (length u.answers - 1) n ≤ u.core.floor = All-get_or (λ a. a ≤ u.core.floor) u.answers (length u.answers - 1) n (omega arith) h.below in omega (arith, h.floor));
     at_enter = λ k answer got. elim (slice_get-push u.answers (last_number x.entries) k answer got) [
-        inl before ↦ at_enter_more past now (Enter c d) next c d k answer s (h.at_enter k answer before)
+      | inl before ↦ at_enter_more past now (Enter c d) next c d k answer s (h.at_enter k answer before)
       | inr new ↦ record {
-          earlier = past;
-          later = [];
-          unshown = now;
-          shown = next;
-          order = refl;
-          before = run;
-          enter = s;
-          place = new.0 ∙ sym (ap (λ (o : Option WorldCaller). length (answers_in o)) found);
-          is_length = sym new.1 ∙ e;
-          after = refl;
-        }
-      ];
+        earlier = past;
+        later = [];
+        unshown = now;
+        shown = next;
+        order = refl;
+        before = run;
+        enter = s;
+        place = new.0 ∙ sym (ap (λ (o : Option WorldCaller). length (answers_in o)) found);
+        is_length = sym new.1 ∙ e;
+        after = refl;
+      }
+    ];
   }

@@ -1,23 +1,18 @@
 -- What holds of a dictionary after every list of events.
-use Rattle.std.proofs.Common.{◌≡◌, ◌≢◌, ℕ, ◌+◌, ◌<◌, ◌≤◌, ◌⊎◌, ◌&&◌, zero, suc, List, [], ◌∷◌, ◌++◌, length, map, Option, Some, None, pos, nat_eq, nat_le, true, false, if◌then◌else◌, refl, sym, ◌∙◌, ap, subst, inl, inr, arith, append_assoc, add-zero, slice_get, All}
+use Rattle.std.proofs.Common.{◌≡◌, ℕ, ◌+◌, ◌≤◌, List, [], ◌∷◌, ◌++◌, length, map, None, pos, refl, sym, ◌∙◌, ap, append_assoc, All}
 use Rattle.std.specs.List.{range_with_len}
 use Rattle.std.specs.List.Sorted.{IsStrictlyIncreasing}
-use Rattle.std.proofs.lemmas.List.Elements.{All-nil, All-push, All-weaker}
-use Rattle.dict_value.specs.declared.fault.Cause.{Cause}
+use Rattle.std.proofs.lemmas.List.Elements.{All-push, All-weaker}
 use Rattle.dict_value.specs.declared.fault.Exit.TheVariants.{Code}
-use Rattle.load_core.specs.declared.dictionary.DictEffect.{DictEffect}
 use Rattle.load_core.specs.declared.dictionary.DictEffect.TheVariants as effect
 use Rattle.load_core.specs.declared.dictionary.Phase.{Phase}
 use Rattle.load_core.specs.declared.dictionary.Phase.TheVariants.{Idle, Reading, Ready, ToPost}
-use Rattle.load_core.specs.declared.dictionary.LastCause.TheVariants as last
-use Rattle.load_core.specs.declared.world.Ended.{Ended}
 use Rattle.load_core.specs.declared.world.Ended.TheVariants.{Whole}
 use Rattle.load_core.specs.declared.world.WorldEvent.{WorldEvent}
-use Rattle.load_core.specs.declared.world.WorldEvent.TheVariants.{Start, Piece, Finish, Publish, Post, Enter, Learn}
+use Rattle.load_core.specs.declared.world.WorldEvent.TheVariants.{Start, Finish, Publish}
 use Rattle.load_core.specs.declared.world.WorldEntry.{WorldEntry}
 use Rattle.load_core.specs.declared.world.WorldDict.{WorldDict}
 use Rattle.load_core.specs.declared.world.World.{World}
-use Rattle.load_core.specs.DictSteps.{risen}
 use Rattle.load_core.specs.WorldSteps.{Verdicts, Answers, Step, Run}
 use Rattle.load_core.specs.Laws.{running, with_piece, joined, IsNoFinish, IsNoPublish, IsOfOneLoad}
 use Rattle.load_core.proofs.Runs.{joined_more, run_more}

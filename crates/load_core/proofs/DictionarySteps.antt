@@ -1,33 +1,30 @@
 -- What holds of a dictionary after one more event of it.
-use Rattle.std.proofs.Common.{◌≡◌, ◌≢◌, ℕ, ◌+◌, ◌<◌, ◌≤◌, ◌⊎◌, ◌&&◌, zero, suc, List, [], ◌∷◌, ◌++◌, length, map, Option, Some, None, pos, negsuc, nat_eq, nat_le, Bool, true, false, if◌then◌else◌, refl, sym, ◌∙◌, ap, subst, inl, inr, arith, append_assoc, add-zero, slice_get, All}
+use Rattle.std.proofs.Common.{◌≡◌, ℕ, ◌+◌, ◌<◌, ◌≤◌, zero, suc, List, [], ◌∷◌, ◌++◌, length, map, None, pos, negsuc, nat_eq, nat_le, Bool, true, false, if◌then◌else◌, refl, sym, ◌∙◌, ap, subst, inl, inr, arith, All}
 use Rattle.std.specs.List.{range_with_len}
 use Rattle.std.specs.List.Sorted.{IsStrictlyIncreasing}
 use Rattle.std.proofs.lemmas.Bool.Decides.{nat_tests}
 use Rattle.std.proofs.lemmas.List.{append-nil, map-append, length_push, nil_from_length}
 use Rattle.std.proofs.lemmas.List.Elements.{All-nil, All-push, All-weaker, All-map}
 use Rattle.dict_value.specs.declared.fault.Cause.{Cause}
-use Rattle.dict_value.specs.declared.fault.Cause.TheVariants as cause
 use Rattle.dict_value.specs.declared.fault.Exit.TheVariants.{Code, Killed}
-use Rattle.load_core.specs.declared.dictionary.DictCore.{DictCore}
 use Rattle.load_core.specs.declared.dictionary.DictEffect.{DictEffect}
 use Rattle.load_core.specs.declared.dictionary.DictEffect.TheVariants as effect
 use Rattle.load_core.specs.declared.dictionary.DictEvent.{DictEvent}
 use Rattle.load_core.specs.declared.dictionary.DictEvent.TheVariants as core
 use Rattle.load_core.specs.declared.dictionary.Ending.{Ending}
 use Rattle.load_core.specs.declared.dictionary.Ending.TheVariants.{Rows, Failed}
-use Rattle.load_core.specs.declared.dictionary.Phase.{Phase}
 use Rattle.load_core.specs.declared.dictionary.Phase.TheVariants.{Idle, Reading, Ready, ToPost}
 use Rattle.load_core.specs.declared.world.Ended.{Ended}
 use Rattle.load_core.specs.declared.world.Ended.TheVariants.{Whole, Broken, TimedOut, TooLong, NotStarted, NoMemory}
 use Rattle.load_core.specs.declared.world.WorldEvent.{WorldEvent}
-use Rattle.load_core.specs.declared.world.WorldEvent.TheVariants.{Start, Piece, Finish, Publish, Post, Enter, Learn}
+use Rattle.load_core.specs.declared.world.WorldEvent.TheVariants.{Start, Piece, Finish, Publish, Post}
 use Rattle.load_core.specs.declared.world.WorldEntry.{WorldEntry}
 use Rattle.load_core.specs.declared.world.WorldDict.{WorldDict}
 use Rattle.load_core.specs.declared.world.World.{World}
 use Rattle.load_core.specs.DictSteps.{Stepped, risen, refused, stepped}
-use Rattle.load_core.specs.WorldSteps.{Verdicts, Finishes, Takes, DictStep, Answers, Step, Run, counted, kept, dict_after}
-use Rattle.load_core.specs.Laws.{running, with_piece, joined, IsNoFinish, IsNoPublish, IsOfOneLoad}
-use Rattle.load_core.proofs.Dictionaries.{IsReading, IsReady, LoadIs, IsSound, reading_more, ready_more, one_load_more, sound_same}
+use Rattle.load_core.specs.WorldSteps.{Verdicts, Finishes, Takes, DictStep, Answers, Step, Run, counted}
+use Rattle.load_core.specs.Laws.{running, with_piece, IsNoFinish, IsNoPublish, IsOfOneLoad}
+use Rattle.load_core.proofs.Dictionaries.{IsReading, IsReady, LoadIs, IsSound, reading_more, one_load_more, sound_same}
 use Rattle.load_core.proofs.Lists.{range_push, rising_push}
 use Rattle.load_core.proofs.Rows.{begun, taken, read, failed, published, posted, start_row, piece_row, rows_row, failed_row, publish_row, post_row, dict_refused, after_step}
 
@@ -109,7 +106,7 @@ module _ (judges : Verdicts) (first : World) (past : List WorldEvent) (now next 
     below = h.below;
     one_load = still (Piece d piece) s;
     load = subst (LoadIs judges first (past ++ Piece d piece ∷ []) next d x.core.loads (x.bytes ++ piece)) (sym e)
-      (reading_more judges first past now d x.core.loads x.bytes (x.bytes ++ piece) (Piece d piece) next (subst (LoadIs judges first past now d x.core.loads x.bytes) e h.load) s tt (piece_taken d x.bytes piece l));
+        (reading_more judges first past now d x.core.loads x.bytes (x.bytes ++ piece) (Piece d piece) next (subst (LoadIs judges first past now d x.core.loads x.bytes) e h.load) s tt (piece_taken d x.bytes piece l));
   }
 
   sound_read : x.core.phase ≡ Reading → judges d x.bytes None → Answers judges now d (Finish d (Whole (Code (pos 0)))) effect.Ready next → IsSound judges first (past ++ Finish d (Whole (Code (pos 0))) ∷ []) next d (after_step x [] (read x.core))
@@ -240,15 +237,15 @@ module _ (judges : Verdicts) (first : World) (past : List WorldEvent) (now next 
   pub sound_start : (y : WorldDict) (answer : DictEffect) → DictStep judges x (Start d) answer y → Answers judges now d (Start d) answer next → IsSound judges first (past ++ Start d ∷ []) next d y
   sound_start y answer t a =
       elim (start_row x.core) [
-        inl r ↦ sound_by (Start d) core.Start [] answer y (begun x.core) t r.2 (λ e. sound_begun r.0 r.1 (subst (λ (k : DictEffect). Answers judges now d (Start d) k next) e a))
-      | inr r ↦ sound_refused (Start d) y (inl (answer, a)) (left_by core.Start [] answer y t r) (λ e. (tt, refl)) (λ e. tt)
+        | inl r ↦ sound_by (Start d) core.Start [] answer y (begun x.core) t r.2 (λ e. sound_begun r.0 r.1 (subst (λ (k : DictEffect). Answers judges now d (Start d) k next) e a))
+        | inr r ↦ sound_refused (Start d) y (inl (answer, a)) (left_by core.Start [] answer y t r) (λ e. (tt, refl)) (λ e. tt)
       ]
 
   pub sound_piece : (piece : List ℕ) (y : WorldDict) (answer : DictEffect) → DictStep judges x (Piece d piece) answer y → Answers judges now d (Piece d piece) answer next → IsSound judges first (past ++ Piece d piece ∷ []) next d y
   sound_piece piece y answer t a =
       elim (piece_row x.core (counted x.bytes piece)) [
-        inl r ↦ sound_by (Piece d piece) (core.Piece (counted x.bytes piece)) piece answer y (taken x.core) t r.2 (λ e. sound_taken piece r.0 r.1 (inl (answer, a)))
-      | inr r ↦ sound_refused (Piece d piece) y (inl (answer, a)) (left_by (core.Piece (counted x.bytes piece)) piece answer y t r.0) (λ e. (tt, piece_left d x.bytes piece (r.1 e))) (λ e. tt)
+        | inl r ↦ sound_by (Piece d piece) (core.Piece (counted x.bytes piece)) piece answer y (taken x.core) t r.2 (λ e. sound_taken piece r.0 r.1 (inl (answer, a)))
+        | inr r ↦ sound_refused (Piece d piece) y (inl (answer, a)) (left_by (core.Piece (counted x.bytes piece)) piece answer y t r.0) (λ e. (tt, piece_left d x.bytes piece (r.1 e))) (λ e. tt)
       ]
 
   pub sound_finish : (ended : Ended) (y : WorldDict) (answer : DictEffect) → DictStep judges x (Finish d ended) answer y → Answers judges now d (Finish d ended) answer next → IsSound judges first (past ++ Finish d ended ∷ []) next d y
@@ -257,30 +254,30 @@ module _ (judges : Verdicts) (first : World) (past : List WorldEvent) (now next 
       rows : (ending_is : (ended ≡ Whole (Code (pos 0))) × judges x.definition x.bytes None) → Takes x (core.Finish Rows) [] answer y → IsSound judges first (past ++ Finish d ended ∷ []) next d y
       rows k u =
           elim (rows_row x.core) [
-            inl r ↦ sound_by (Finish d ended) (core.Finish Rows) [] answer y (read x.core) u r.1 (λ e.
-              subst (λ (n : Ended). IsSound judges first (past ++ Finish d n ∷ []) next d (after_step x [] (read x.core))) (sym k.0)
-              (sound_read r.0 (subst (λ (n : ℕ). judges n x.bytes None) h.place k.1) (subst (λ (n : Ended). Answers judges now d (Finish d n) effect.Ready next) k.0 (subst (λ (f : DictEffect). Answers judges now d (Finish d ended) f next) e a))))
-          | inr r ↦ sound_refused (Finish d ended) y (inl (answer, a)) (left_by (core.Finish Rows) [] answer y u r.0) (λ e. absurd (r.1 e)) (λ e. tt)
+            | inl r ↦ sound_by (Finish d ended) (core.Finish Rows) [] answer y (read x.core) u r.1 (λ e.
+                subst (λ (n : Ended). IsSound judges first (past ++ Finish d n ∷ []) next d (after_step x [] (read x.core))) (sym k.0)
+                (sound_read r.0 (subst (λ (n : ℕ). judges n x.bytes None) h.place k.1) (subst (λ (n : Ended). Answers judges now d (Finish d n) effect.Ready next) k.0 (subst (λ (f : DictEffect). Answers judges now d (Finish d ended) f next) e a))))
+            | inr r ↦ sound_refused (Finish d ended) y (inl (answer, a)) (left_by (core.Finish Rows) [] answer y u r.0) (λ e. absurd (r.1 e)) (λ e. tt)
           ]
 
       go : (ending : Ending) → Finishes judges x.definition x.bytes ended ending → Takes x (core.Finish ending) [] answer y → IsSound judges first (past ++ Finish d ended ∷ []) next d y
       go Rows f u = rows (rows_finish judges x.definition x.bytes ended f) u
       go (Failed why) f u =
           elim (failed_row x.core why) [
-            inl r ↦ sound_by (Finish d ended) (core.Finish (Failed why)) [] answer y (failed x.core why) u r.1 (λ e. sound_failed why ended r.0 (inl (answer, a)))
-          | inr r ↦ sound_refused (Finish d ended) y (inl (answer, a)) (left_by (core.Finish (Failed why)) [] answer y u r.0) (λ e. absurd (r.1 e)) (λ e. tt)
+            | inl r ↦ sound_by (Finish d ended) (core.Finish (Failed why)) [] answer y (failed x.core why) u r.1 (λ e. sound_failed why ended r.0 (inl (answer, a)))
+            | inr r ↦ sound_refused (Finish d ended) y (inl (answer, a)) (left_by (core.Finish (Failed why)) [] answer y u r.0) (λ e. absurd (r.1 e)) (λ e. tt)
           ]
 
   pub sound_publish : (y : WorldDict) (answer : DictEffect) → DictStep judges x (Publish d) answer y → Answers judges now d (Publish d) answer next → IsSound judges first (past ++ Publish d ∷ []) next d y
   sound_publish y answer t a =
       elim (publish_row x.core) [
-        inl r ↦ sound_by (Publish d) core.Publish [] answer y (published x.core) t r.1 (λ e. sound_published r.0 (subst (λ (k : DictEffect). Answers judges now d (Publish d) k next) e a))
-      | inr r ↦ sound_refused (Publish d) y (inl (answer, a)) (left_by core.Publish [] answer y t r.0) (λ e. (tt, refl)) (λ e. absurd (r.1 e))
+        | inl r ↦ sound_by (Publish d) core.Publish [] answer y (published x.core) t r.1 (λ e. sound_published r.0 (subst (λ (k : DictEffect). Answers judges now d (Publish d) k next) e a))
+        | inr r ↦ sound_refused (Publish d) y (inl (answer, a)) (left_by core.Publish [] answer y t r.0) (λ e. (tt, refl)) (λ e. absurd (r.1 e))
       ]
 
   pub sound_post : (y : WorldDict) (answer : DictEffect) → DictStep judges x (Post d) answer y → Answers judges now d (Post d) answer next → IsSound judges first (past ++ Post d ∷ []) next d y
   sound_post y answer t a =
       elim (post_row x.core) [
-        inl r ↦ sound_by (Post d) core.Post [] answer y (posted x.core) t r.1 (λ e. sound_posted r.0 (inl (answer, a)))
-      | inr r ↦ sound_refused (Post d) y (inl (answer, a)) (left_by core.Post [] answer y t r) (λ e. (tt, refl)) (λ e. tt)
+        | inl r ↦ sound_by (Post d) core.Post [] answer y (posted x.core) t r.1 (λ e. sound_posted r.0 (inl (answer, a)))
+        | inr r ↦ sound_refused (Post d) y (inl (answer, a)) (left_by core.Post [] answer y t r) (λ e. (tt, refl)) (λ e. tt)
       ]

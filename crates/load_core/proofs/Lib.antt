@@ -1,6 +1,7 @@
 pub mod Callers
 pub mod Dictionaries
 pub mod DictionarySteps
+pub mod LawLemmas
 pub mod Lists
 pub mod Places
 pub mod Rows

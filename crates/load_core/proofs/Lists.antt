@@ -1,5 +1,5 @@
 -- Lists that get one more item at their end.
-use Rattle.std.proofs.Common.{◌≡◌, ◌≢◌, ℕ, ◌+◌, ◌-◌, ◌<◌, ◌≤◌, ◌⊎◌, zero, suc, List, [], ◌∷◌, ◌++◌, length, map, Option, Some, None, refl, sym, ◌∙◌, ap, subst, inl, inr, arith, add-zero, get_or, slice_index, slice_get, All, length-append}
+use Rattle.std.proofs.Common.{◌≡◌, ℕ, ◌+◌, ◌<◌, ◌⊎◌, zero, suc, List, [], ◌∷◌, ◌++◌, length, Some, refl, sym, ◌∙◌, ap, inl, inr, arith, get_or, slice_get, All}
 use Rattle.std.specs.List.{range_with_len}
 use Rattle.std.specs.List.Sorted.{IsStrictlyIncreasing}
 use Rattle.std.proofs.lemmas.Bool.{cases_eq}
@@ -16,11 +16,11 @@ range_push a (suc n) =
 -- one more number above all
 pub rising_push : (xs : List ℕ) (y : ℕ) → IsStrictlyIncreasing xs → All (λ x. x < y) xs → IsStrictlyIncreasing (xs ++ y ∷ [])
 rising_push xs y rises below k h = elim (cases_eq (k + 1) (length xs)) [
-      inl e ↦ (let here : get_or xs k 0 < y = All-get_or (λ x. x < y) xs k 0 (omega arith) below in
-        rw (get_or_append_left xs (y ∷ []) 0 k (omega arith), get_or_at xs y [] 0 (k + 1) (sym e)) here)
-    | inr n ↦ (let l : k + 1 < length xs = omega (arith, length_push xs y) in
-        rw (get_or_append_left xs (y ∷ []) 0 k (omega arith), get_or_append_left xs (y ∷ []) 0 (k + 1) l) (rises k l))
-    ]
+  | inl e ↦ (let here : get_or xs k 0 < y = All-get_or (λ x. x < y) xs k 0 (omega arith) below in
+      rw (get_or_append_left xs (y ∷ []) 0 k (omega arith), get_or_at xs y [] 0 (k + 1) (sym e)) here)
+  | inr n ↦ (let l : k + 1 < length xs = omega (arith, length_push xs y) in
+      rw (get_or_append_left xs (y ∷ []) 0 k (omega arith), get_or_append_left xs (y ∷ []) 0 (k + 1) l) (rises k l))
+]
 
 -- an item is one of those before, or the last one
 pub slice_get-push : {A : Type 0} (xs : List A) (y : A) (k : ℕ) (z : A) → slice_get (xs ++ y ∷ []) k ≡ Some z → (slice_get xs k ≡ Some z) ⊎ ((k ≡ length xs) × (y ≡ z))

@@ -1,6 +1,5 @@
 -- Which row of the table an event takes.
-use Rattle.std.proofs.Common.{◌≡◌, ◌≢◌, ℕ, ◌+◌, ◌<◌, ◌≤◌, ◌⊎◌, zero, suc, nat_lt, Bool, true, false, refl, sym, ◌∙◌, ap, inl, inr, arith, if◌then◌else◌, List}
-use Rattle.std.proofs.lemmas.Bool.{ltb-true, lt-ltb}
+use Rattle.std.proofs.Common.{◌≡◌, ◌≢◌, ℕ, ◌+◌, ◌<◌, ◌≤◌, ◌⊎◌, nat_lt, true, false, refl, sym, ◌∙◌, ap, inl, inr, arith, if◌then◌else◌, List}
 use Rattle.std.proofs.lemmas.Bool.Decides.{nat_tests}
 use Rattle.dict_value.specs.declared.fault.Cause.{Cause}
 use Rattle.load_core.specs.declared.dictionary.DictCore.{DictCore}
@@ -114,33 +113,33 @@ post_row c = go c.phase refl
 pub core_refused : (c : DictCore) (event : DictEvent) → (stepped c event).effect ≡ effect.Refused → (stepped c event).core ≡ c
 core_refused c Start h =
     elim (start_row c) [
-      inl r ↦ let k : effect.Begun (c.loads + 1) ≡ effect.Refused = sym (ap (λ s. s.effect) r.2) ∙ h in cc
-    | inr r ↦ ap (λ s. s.core) r
+      | inl r ↦ let k : effect.Begun (c.loads + 1) ≡ effect.Refused = sym (ap (λ s. s.effect) r.2) ∙ h in cc
+      | inr r ↦ ap (λ s. s.core) r
     ]
 core_refused c (Piece n) h =
     elim (piece_row c n) [
-      inl r ↦ ap (λ s. s.core) r.2
-    | inr r ↦ ap (λ s. s.core) r.0
+      | inl r ↦ ap (λ s. s.core) r.2
+      | inr r ↦ ap (λ s. s.core) r.0
     ]
 core_refused c (Finish Rows) h =
     elim (rows_row c) [
-      inl r ↦ let k : effect.Ready ≡ effect.Refused = sym (ap (λ s. s.effect) r.1) ∙ h in cc
-    | inr r ↦ ap (λ s. s.core) r.0
+      | inl r ↦ let k : effect.Ready ≡ effect.Refused = sym (ap (λ s. s.effect) r.1) ∙ h in cc
+      | inr r ↦ ap (λ s. s.core) r.0
     ]
 core_refused c (Finish (Failed cause)) h =
     elim (failed_row c cause) [
-      inl r ↦ let k : effect.Failing ≡ effect.Refused = sym (ap (λ s. s.effect) r.1) ∙ h in cc
-    | inr r ↦ ap (λ s. s.core) r.0
+      | inl r ↦ let k : effect.Failing ≡ effect.Refused = sym (ap (λ s. s.effect) r.1) ∙ h in cc
+      | inr r ↦ ap (λ s. s.core) r.0
     ]
 core_refused c Publish h =
     elim (publish_row c) [
-      inl r ↦ let k : effect.Published (risen c.published) ≡ effect.Refused = sym (ap (λ s. s.effect) r.1) ∙ h in cc
-    | inr r ↦ ap (λ s. s.core) r.0
+      | inl r ↦ let k : effect.Published (risen c.published) ≡ effect.Refused = sym (ap (λ s. s.effect) r.1) ∙ h in cc
+      | inr r ↦ ap (λ s. s.core) r.0
     ]
 core_refused c Post h =
     elim (post_row c) [
-      inl r ↦ let k : effect.Posted ≡ effect.Refused = sym (ap (λ s. s.effect) r.1) ∙ h in cc
-    | inr r ↦ ap (λ s. s.core) r
+      | inl r ↦ let k : effect.Posted ≡ effect.Refused = sym (ap (λ s. s.effect) r.1) ∙ h in cc
+      | inr r ↦ ap (λ s. s.core) r
     ]
 
 -- a dictionary after what its core makes of an event

@@ -1,16 +1,15 @@
 -- A run that goes on by one event, and what it does at one place.
-use Rattle.std.proofs.Common.{◌≡◌, ◌≢◌, ℕ, ◌+◌, ◌≤◌, ◌⊎◌, zero, suc, List, [], ◌∷◌, ◌++◌, length, Option, Some, None, refl, sym, ◌∙◌, ap, subst, inl, inr, arith, append_assoc, slice_get, All}
+use Rattle.std.proofs.Common.{◌≡◌, ◌≢◌, ℕ, ◌⊎◌, List, [], ◌∷◌, ◌++◌, Some, refl, sym, ◌∙◌, ap, subst, inl, inr}
 use Rattle.std.proofs.lemmas.Bool.{cases_eq}
 use Rattle.std.proofs.lemmas.Option.{none-some, same_Some}
 use Rattle.load_core.specs.declared.dictionary.DictEffect.{DictEffect}
 use Rattle.load_core.specs.declared.world.WorldEvent.{WorldEvent}
 use Rattle.load_core.specs.declared.world.WorldEvent.TheVariants.{Start, Piece, Finish, Publish, Post, Enter, Learn}
-use Rattle.load_core.specs.declared.world.WorldEntry.{WorldEntry}
 use Rattle.load_core.specs.declared.world.WorldDict.{WorldDict}
 use Rattle.load_core.specs.declared.world.WorldCaller.{WorldCaller}
 use Rattle.load_core.specs.declared.world.World.{World}
-use Rattle.load_core.specs.WorldSteps.{Verdicts, DictStep, Answers, Informs, DictEvents, CallerEvents, Step, Run, dict_at, with_dict, caller_at, with_caller, entered, learnt}
-use Rattle.load_core.specs.Laws.{with_piece, joined, IsNoFinish, IsNoPublish}
+use Rattle.load_core.specs.WorldSteps.{Verdicts, DictStep, Answers, Informs, DictEvents, CallerEvents, Step, Run, dict_at, caller_at, with_caller, entered, learnt}
+use Rattle.load_core.specs.Laws.{with_piece, joined}
 use Rattle.load_core.proofs.Places.{dict_at-with_same, dict_at-with_other, caller_at-with_same, caller_at-with_other_dict, caller_at-with_other}
 
 -- the pieces of one more event join to those so far
@@ -25,16 +24,16 @@ module _ (judges : Verdicts) where
 
   -- an event of the dictionary at one place leaves the others, and steps that one
   pub at_dict : (old new : World) (make : ℕ → WorldEvent) (e d : ℕ) (z : WorldDict) (Goal : WorldEvent → WorldDict → Type 0) →
-    ((x : WorldDict) → dict_at old d ≡ Some x → e ≢ d → Goal (make e) x) →
-    ((x y : WorldDict) (answer : DictEffect) → dict_at old d ≡ Some x → DictStep judges x (make d) answer y → Answers judges old d (make d) answer new → Goal (make d) y) →
-    DictEvents judges old e (make e) new → dict_at new d ≡ Some z → Goal (make e) z
+      ((x : WorldDict) → dict_at old d ≡ Some x → e ≢ d → Goal (make e) x) →
+      ((x y : WorldDict) (answer : DictEffect) → dict_at old d ≡ Some x → DictStep judges x (make d) answer y → Answers judges old d (make d) answer new → Goal (make d) y) →
+      DictEvents judges old e (make e) new → dict_at new d ≡ Some z → Goal (make e) z
   at_dict old new make e d z Goal others this step found = elim step [
-      inl h ↦ elim (cases_eq e d) [
-          inl p ↦ (let Back : ℕ → Type 0 = λ n. Answers judges old n (make n) h.0 new → Goal (make n) z in subst Back (sym p) (taken h.0) h.1)
-        | inr n ↦ others z (sym (left h.0 h.1 n) ∙ found) n
-        ]
-    | inr h ↦ others z (ap (λ (w : World). dict_at w d) (sym h.1) ∙ found) (λ p. none-some z (sym (ap (dict_at old) (sym p) ∙ h.0) ∙ (ap (λ (w : World). dict_at w d) (sym h.1) ∙ found)))
+    | inl h ↦ elim (cases_eq e d) [
+      | inl p ↦ (let Back : ℕ → Type 0 = λ n. Answers judges old n (make n) h.0 new → Goal (make n) z in subst Back (sym p) (taken h.0) h.1)
+      | inr n ↦ others z (sym (left h.0 h.1 n) ∙ found) n
     ]
+    | inr h ↦ others z (ap (λ (w : World). dict_at w d) (sym h.1) ∙ found) (λ p. none-some z (sym (ap (dict_at old) (sym p) ∙ h.0) ∙ (ap (λ (w : World). dict_at w d) (sym h.1) ∙ found)))
+  ]
     where
       left : (answer : DictEffect) → Answers judges old e (make e) answer new → e ≢ d → dict_at new d ≡ dict_at old d
       left answer a n = ap (λ (w : World). dict_at w d) a.rest ∙ dict_at-with_other old e d a.after n
@@ -68,44 +67,53 @@ informs_other : (old : World) (c d b e : ℕ) (becomes : WorldCaller → WorldDi
 informs_other old c d b e becomes new i (inl n) =
     ap (λ (w : World). caller_at w b e) i.rest ∙ caller_at-with_other old c d b e (becomes i.caller i.dictionary) n
 informs_other old c d b e becomes new i (inr n) = elim (cases_eq c b) [
-      inl p ↦ ap (λ (w : World). caller_at w b e) i.rest ∙ subst (λ (k : ℕ). caller_at (with_caller old c d (becomes i.caller i.dictionary)) k e ≡ caller_at old k e) p (caller_at-with_other_dict old c d e i.caller (becomes i.caller i.dictionary) i.found_caller n)
-    | inr m ↦ ap (λ (w : World). caller_at w b e) i.rest ∙ caller_at-with_other old c d b e (becomes i.caller i.dictionary) m
-    ]
+  | inl p ↦ ap (λ (w : World). caller_at w b e) i.rest ∙ subst (λ (k : ℕ). caller_at (with_caller old c d (becomes i.caller i.dictionary)) k e ≡ caller_at old k e) p (caller_at-with_other_dict old c d e i.caller (becomes i.caller i.dictionary) i.found_caller n)
+  | inr m ↦ ap (λ (w : World). caller_at w b e) i.rest ∙ caller_at-with_other old c d b e (becomes i.caller i.dictionary) m
+]
 
-informs_same : (old : World) (c d : ℕ) (becomes : WorldCaller → WorldDict → WorldCaller) (new : World) (i : Informs old c d becomes new) → caller_at new c d ≡ Some (becomes i.caller i.dictionary)
+pub informs_same : (old : World) (c d : ℕ) (becomes : WorldCaller → WorldDict → WorldCaller) (new : World) (i : Informs old c d becomes new) → caller_at new c d ≡ Some (becomes i.caller i.dictionary)
 informs_same old c d becomes new i =
     ap (λ (w : World). caller_at w c d) i.rest ∙ caller_at-with_same old c d i.caller (becomes i.caller i.dictionary) i.found_caller
 
 -- the place that an event informs is this one, or another
 place_cases : (c d b e : ℕ) → ((c ≡ b) × (d ≡ e)) ⊎ ((c ≢ b) ⊎ (d ≢ e))
 place_cases c d b e = elim (cases_eq c b) [
-      inl p ↦ elim (cases_eq d e) [ inl q ↦ inl (p, q) | inr n ↦ inr (inr n) ]
-    | inr n ↦ inr (inl n)
-    ]
+  | inl p ↦ elim (cases_eq d e) [ inl q ↦ inl (p, q) | inr n ↦ inr (inr n) ]
+  | inr n ↦ inr (inl n)
+]
 
 enter_turn : (old : World) (a b c d : ℕ) (new : World) → CallerEvents old a b entered new → CallerTurn old (Enter a b) new c d
 enter_turn old a b c d new (inr s) = inl (ap (λ (w : World). caller_at w c d) s.1)
 enter_turn old a b c d new (inl i) = elim (place_cases a b c d) [
-      inl p ↦ inr (inl (here p.0 p.1))
-    | inr n ↦ inl (informs_other old a b c d entered new i n)
-    ]
-    where
-      here : a ≡ c → b ≡ d → IsShown old (Enter a b) new c d
-      here p q = subst (λ (k : ℕ). IsShown old (Enter a b) new k d) p (subst (λ (k : ℕ). IsShown old (Enter a b) new a k) q (record {
-        caller = i.caller; dictionary = i.dictionary; found_caller = i.found_caller; found = i.found; event_is = refl; becomes = informs_same old a b entered new i
-      }))
+  | inl p ↦ inr (inl (here p.0 p.1))
+  | inr n ↦ inl (informs_other old a b c d entered new i n)
+]
+  where
+    here : a ≡ c → b ≡ d → IsShown old (Enter a b) new c d
+    here p q = subst (λ (k : ℕ). IsShown old (Enter a b) new k d) p (subst (λ (k : ℕ). IsShown old (Enter a b) new a k) q (record {
+      caller = i.caller;
+      dictionary = i.dictionary;
+      found_caller = i.found_caller;
+      found = i.found;
+      event_is = refl;
+      becomes = informs_same old a b entered new i;
+    }))
 
 learn_turn : (old : World) (a b c d : ℕ) (new : World) → CallerEvents old a b learnt new → CallerTurn old (Learn a b) new c d
 learn_turn old a b c d new (inr s) = inl (ap (λ (w : World). caller_at w c d) s.1)
 learn_turn old a b c d new (inl i) = elim (place_cases a b c d) [
-      inl p ↦ inr (inr (here p.0 p.1))
-    | inr n ↦ inl (informs_other old a b c d learnt new i n)
-    ]
-    where
-      here : a ≡ c → b ≡ d → IsTold old new c d
-      here p q = subst (λ (k : ℕ). IsTold old new k d) p (subst (λ (k : ℕ). IsTold old new a k) q (record {
-        caller = i.caller; dictionary = i.dictionary; found_caller = i.found_caller; found = i.found; becomes = informs_same old a b learnt new i
-      }))
+  | inl p ↦ inr (inr (here p.0 p.1))
+  | inr n ↦ inl (informs_other old a b c d learnt new i n)
+]
+  where
+    here : a ≡ c → b ≡ d → IsTold old new c d
+    here p q = subst (λ (k : ℕ). IsTold old new k d) p (subst (λ (k : ℕ). IsTold old new a k) q (record {
+      caller = i.caller;
+      dictionary = i.dictionary;
+      found_caller = i.found_caller;
+      found = i.found;
+      becomes = informs_same old a b learnt new i;
+    }))
 
 module _ (judges : Verdicts) where
   -- events of dictionaries leave the callers
