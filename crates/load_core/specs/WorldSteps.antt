@@ -10,6 +10,8 @@ use Rattle.load_core.specs.declared.dictionary.DictEffect.{DictEffect}
 use Rattle.load_core.specs.declared.dictionary.DictEffect.TheVariants as effect
 use Rattle.load_core.specs.declared.dictionary.Ending.{Ending}
 use Rattle.load_core.specs.declared.dictionary.Ending.TheVariants.{Rows, Failed}
+use Rattle.load_core.specs.declared.caller.CallerEvent.{CallerEvent}
+use Rattle.load_core.specs.declared.caller.CallerEvent.TheVariants.{Entered, Told}
 use Rattle.load_core.specs.declared.world.Ended.{Ended}
 use Rattle.load_core.specs.declared.world.Ended.TheVariants.{Whole, Broken, TimedOut, TooLong, NotStarted, NoMemory}
 use Rattle.load_core.specs.declared.world.WorldEvent.{WorldEvent}
@@ -18,6 +20,7 @@ use Rattle.load_core.specs.declared.world.WorldEntry.{WorldEntry}
 use Rattle.load_core.specs.declared.world.WorldDict.{WorldDict}
 use Rattle.load_core.specs.declared.world.WorldCaller.{WorldCaller}
 use Rattle.load_core.specs.declared.world.World.{World}
+use Rattle.load_core.specs.CallerSteps.{raised}
 use Rattle.load_core.specs.DictSteps.{empty_core, stepped}
 
 -- what a judge says of a definition's number and a text: accepted, or refused with a cause
@@ -106,14 +109,17 @@ last_number [] = 0
 last_number (entry ∷ []) = entry.number
 last_number (entry ∷ entries) = last_number entries
 
--- what a caller knows once it is shown the last entry
-abbrev pub entered : WorldCaller → WorldDict → WorldCaller
-entered u x =
-    record { core = record { floor = max u.core.floor (last_number x.entries) }; answers = u.answers ++ last_number x.entries ∷ [] }
+-- what a caller knows once a number came to it, which is an answer where it was shown that version
+abbrev pub knowing : WorldCaller → CallerEvent → WorldCaller
+knowing u (Entered number) = record { core = raised u.core (Entered number); answers = u.answers ++ number ∷ [] }
+knowing u (Told number) = record u { core = raised u.core (Told number) }
 
--- what a caller knows once it is told the number posted
+-- once it is shown the last entry of a dictionary; once it is told the number posted
+abbrev pub entered : WorldCaller → WorldDict → WorldCaller
+entered u x = knowing u (Entered (last_number x.entries))
+
 abbrev pub learnt : WorldCaller → WorldDict → WorldCaller
-learnt u x = record u { core = record { floor = max u.core.floor x.posted } }
+learnt u x = knowing u (Told x.posted)
 
 -- What the caller knows of the dictionary at this place becomes that. All else stays.
 pub record Informs (old : World) (c d : ℕ) (becomes : WorldCaller → WorldDict → WorldCaller) (new : World) : Type 0 where

@@ -25,8 +25,8 @@ pub struct CallerCore {
 }
 
 impl CallerCore {
-    ghost use Rattle.std.specs.Prelude.{◌≡◌, max};
-    ghost use Rattle.load_core.specs.CallerSteps.{number_of, effect_of};
+    ghost use Rattle.std.specs.Prelude.{◌≡◌};
+    ghost use Rattle.load_core.specs.CallerSteps.{raised, effect_of};
 
     /// A caller that knows of no version.
     pub fn new() -> CallerCore
@@ -37,8 +37,8 @@ impl CallerCore {
 
     /// Raises the floor to the number where that is greater. It takes no memory.
     pub fn step(&mut self, event: CallerEvent) -> CallerEffect
-        ensures core { self.new.floor ≡ max self.old.floor (number_of event) }
-        ensures effect { result ≡ effect_of self.old.floor (number_of event) }
+        ensures core { self.new ≡ raised self.old event }
+        ensures effect { result ≡ effect_of self.old event }
     {
         let (CallerEvent::Entered(number) | CallerEvent::Told(number)) = event;
         if number < self.floor {

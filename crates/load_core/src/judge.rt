@@ -8,3 +8,13 @@ pub trait Judge {
     /// Holds where the text may be accepted (no cause), or refused with the cause.
     ghost judges: { Verdicts };
 }
+
+/// The strict form of rows, for a definition of any number.
+#[derive(Clone, Copy, Debug)]
+pub struct StrictJudge;
+
+impl Judge for StrictJudge {
+    ghost use Rattle.load_core.specs.StrictVerdicts.{strict_verdicts};
+
+    ghost judges = { strict_verdicts };
+}
