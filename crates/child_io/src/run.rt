@@ -31,6 +31,7 @@ fn hear<C: Child, P: Pieces>(child: &mut C, limit: u32, read_ms: u32, out: &mut 
     requires closed { IsTrue (C.closed child.old) }
     requires unheard { P.took out.old [] }
     ensures heard { HeardPieces (P.took out.new) (C.told child.old) limit result }
+    ensures kept { P.kept out.new ≡ P.kept out.old }
     ensures broke { EndBroke C.broke result }
     ensures started { result ≢ PieceEnd.NotStarted }
     ensures had_memory { result ≢ PieceEnd.NoMemory }
@@ -72,6 +73,7 @@ pub fn run_pieces<S: Spawner, P: Pieces>(
 ) -> PieceEnd
     requires { P.took out.old [] }
     ensures pieces { RunInPieces (P.took out.new) (S.scripts spawner.old) (S.scripts spawner.new) S.C.told S.ran words.now limit result }
+    ensures kept { P.kept out.new ≡ P.kept out.old }
     ensures cause { HasCause (S.start_faults spawner.old) (S.start_faults spawner.new) (result ≡ PieceEnd.NotStarted) }
     ensures broke { EndBroke S.C.broke result }
     ensures child_rose { EndFails result → RoseOnce S.C.faults }
