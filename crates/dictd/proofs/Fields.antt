@@ -45,6 +45,7 @@ pub closed-tail : (text rest : List ℕ) → text ≡ codes " format 'TabSeparat
 closed-tail text rest e some other (tail, kind, f) = by_kind kind where
   same : tail ≡ rest
   same = behind-once (codes " format 'TabSeparated')) LAYOUT(FLAT()) LIFETIME(0);") tail rest (sym f ∙ e)
+
   by_kind : (tail ≡ []) ⊎ (tail ≡ 10 ∷ []) → ⊥
   by_kind (inl p) = some (sym same ∙ p)
   by_kind (inr p) = other (sym same ∙ p)

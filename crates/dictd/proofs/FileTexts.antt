@@ -33,13 +33,32 @@ command-lacks (b ∷ command) h = AllByRecursion-append (λ c. c ≢ 39) (if b =
 -- the fields of a file that defines something
 pub defined-fields : (text : List ℕ) (d : ThinDefinition) → Defines text d → HasFields text d.name d.key d.attribute d.key (doubled d.source.command)
 defined-fields text d h =
-    let n = h.sound.names in
-    (_, name-lacks d.name n.name_bare, h.spelled,
-    (_, name-lacks d.key n.key_bare, refl,
-    (_, name-lacks d.attribute n.attribute_bare, refl,
-    (_, name-lacks d.key n.key_bare, refl,
-    (_, command-lacks d.source.command h.sound.command.bytes, refl,
-    (h.tail, h.behind, refl))))))
+    let n = h.sound.names in (
+      _,
+      name-lacks d.name n.name_bare,
+      h.spelled,
+      (
+        _,
+        name-lacks d.key n.key_bare,
+        refl,
+        (
+          _,
+          name-lacks d.attribute n.attribute_bare,
+          refl,
+          (
+            _,
+            name-lacks d.key n.key_bare,
+            refl,
+            (
+              _,
+              command-lacks d.source.command h.sound.command.bytes,
+              refl,
+              (h.tail, h.behind, refl),
+            ),
+          ),
+        ),
+      ),
+    )
 
 pub record SameFields (name key attribute again command name2 key2 attribute2 again2 command2 : List ℕ) : Type 0 where
   pub name_same : name ≡ name2

@@ -1,5 +1,7 @@
+pub mod Asked
 pub mod CommandLine
 pub mod Inputs
+pub mod Judged
 pub mod Loads
 pub mod OneRun
 pub mod Requests

@@ -1,5 +1,6 @@
 -- Requests, one line each, and their replies.
-use Rattle.std.specs.Prelude.{◌≡◌, ℕ, List, [], ◌∷◌, ◌++◌, ◌⊎◌, ◌==◌, codes, decimal, length, find}
+use Rattle.std.specs.Prelude.{◌≡◌, ℕ, List, [], ◌∷◌, ◌++◌, ◌⊎◌, ◌==◌, Some, codes, decimal, length, find}
+use Rattle.version_slot.specs.Views.{entry}
 use Rattle.std.specs.Option.{option_map_or}
 use Rattle.std.specs.Str.Parse.{digits_value}
 use Rattle.dict_value.specs.Digits.{IsDigits}
@@ -44,10 +45,10 @@ refusal number = codes "ERR" ++ 9 ∷ (number ++ 10 ∷ [])
 abbrev pub version_name : ℕ → List ℕ
 version_name number = codes "v" ++ decimal number
 
--- the value of a key in the last version of the list, or error 5 where there is none
+-- the value of a key in the newest version of the list, named by its number, or error 5 where there is none
 pub data IsValue (versions : List (List TextRow)) (key : ℕ) (reply : List ℕ) : Type 0 where
   NotLoaded : versions ≡ [] → reply ≡ refusal (codes "5") → IsValue versions key reply
-  Loaded : (before : List (List TextRow)) (rows : List TextRow) → versions ≡ before ++ rows ∷ []
+  Loaded : (rows : List TextRow) → entry versions (length versions) ≡ Some rows
       → reply ≡ codes "OK" ++ 9 ∷ (version_name (length versions) ++ 9 ∷ (text_at rows key ++ 10 ∷ []))
       → IsValue versions key reply
 

@@ -1,5 +1,9 @@
 -- A session: the replies to the lines of an input, in order.
-use Rattle.std.specs.Prelude.{◌≡◌, ◌<◌, ◌≤◌, ℕ, List, [], ◌∷◌, ◌++◌, ◌⊎◌, codes, length, take}
+use Rattle.std.specs.Prelude.{◌≡◌, ◌<◌, ◌≤◌, ℕ, List, [], ◌∷◌, ◌++◌, ◌⊎◌, codes, length, take, Option, Result, Ok, Err}
+use Rattle.std.specs.Borrow.{Bor}
+use Rattle.std.specs.Io.KnownBytes.{append_known}
+use Rattle.dict_value.specs.declared.fault.NoMemory.{NoMemory as OutOfMemory}
+use Rattle.dict_io.specs.declared.outside.Failed.{Failed as WriteFailed}
 use Rattle.dictd.specs.declared.thin.ThinDefinition.{ThinDefinition}
 use Rattle.dictd.specs.declared.ending.LoadEnd.{LoadEnd}
 use Rattle.dictd.specs.declared.input.InputEnd.{InputEnd}
@@ -13,6 +17,16 @@ pub data Answers (d : ThinDefinition) (old : State) (line reply : List ℕ) (new
   Load : (end : LoadEnd) → AsksToLoad d line → Loads old end new → reply ≡ load_reply end ⊎ reply ≡ refusal (codes "99") → Answers d old line reply new
   Unread : ((key : ℕ) → AsksFor d line key → ⊥) → (AsksToLoad d line → ⊥) → new ≡ old → reply ≡ refusal (codes "1") → Answers d old line reply new
   NoMemory : (AsksToLoad d line → ⊥) → new ≡ old → reply ≡ refusal (codes "99") → Answers d old line reply new
+
+-- the reply that was composed, or error 99 in its place
+abbrev pub Says : ThinDefinition → State → List ℕ → Result (Unit {0}) OutOfMemory → List ℕ → State → Type 0
+Says d old line (Ok _) reply new = Answers d old line reply new
+Says d old line (Err _) reply new = Answers d old line (refusal (codes "99")) new
+
+-- the reply was written, or a front of it where a write failed
+abbrev pub WritesReply : ThinDefinition → State → List ℕ → Option (List ℕ) → Result (Unit {0}) WriteFailed → Option (List ℕ) → State → Type 0
+WritesReply d old line before (Ok _) after new = (reply : List ℕ) × Answers d old line reply new × (after ≡ append_known before reply)
+WritesReply d old line before (Err _) after new = (reply : List ℕ) × Answers d old line reply new × ((count : ℕ) × (count ≤ length reply) × (after ≡ append_known before (take count reply)))
 
 -- one reply for each line, in order
 abbrev pub AnswersAll : ThinDefinition → State → List (List ℕ) → List ℕ → State → Type 0
@@ -53,3 +67,13 @@ abbrev pub ServesFront : ThinDefinition → InputEnd → List ℕ → State → 
 ServesFront d Ended text old out new = (lines : List (List ℕ)) × IsLines text lines × AnswersFront d old lines out new
 ServesFront d Failed text old out new = (lines : List (List ℕ)) × IsLinesSoFar text lines × AnswersFront d old lines out new
 ServesFront d TooLong text old out new = (count : ℕ) × (count ≤ length (refusal (codes "13"))) × (out ≡ take count (refusal (codes "13"))) × (new ≡ old)
+
+-- the whole lines of a text were answered, and this is what stands behind them; or a write failed at one of its lines
+abbrev pub ServesLines : ThinDefinition → State → List ℕ → Option (List ℕ) → Result (Bor (List ℕ)) WriteFailed → Option (List ℕ) → State → Type 0
+ServesLines d old text before (Ok rest) after new = (lines : List (List ℕ)) × (out : List ℕ) × LinesThen lines rest.now text × AnswersAll d old lines out new × (after ≡ append_known before out)
+ServesLines d old text before (Err _) after new = (lines : List (List ℕ)) × (last : List ℕ) × (out : List ℕ) × LinesThen lines last text × AnswersFront d old lines out new × (after ≡ append_known before out)
+
+-- an input that ended so was answered, or a front of that was written
+abbrev pub ServesInput : ThinDefinition → InputEnd → List ℕ → State → Option (List ℕ) → Result (Unit {0}) WriteFailed → Option (List ℕ) → State → Type 0
+ServesInput d end text old before (Ok _) after new = (out : List ℕ) × Serves d end text old out new × (after ≡ append_known before out)
+ServesInput d end text old before (Err _) after new = (out : List ℕ) × ServesFront d end text old out new × (after ≡ append_known before out)

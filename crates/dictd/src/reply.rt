@@ -42,12 +42,7 @@ fn push_version(out: &mut Bytes, number: u64) -> Result<(), NoMemory>
 }
 
 /// The value of a key in the rows of a version.
-pub fn value_reply(
-    out: &mut Bytes,
-    number: u64,
-    rows: &[TextRow],
-    key: u64,
-) -> Result<(), NoMemory>
+pub fn value_reply(out: &mut Bytes, number: u64, rows: &[TextRow], key: u64) -> Result<(), NoMemory>
     ensures { OnOk result (out.new ≡ codes "OK" ++ 9 ∷ (version_name number ++ 9 ∷ (text_at rows.now key ++ 10 ∷ []))) }
 {
     out.clear();

@@ -60,9 +60,7 @@ fn is_bare_name(name: &[u8]) -> bool
 {
     match name {
         [] => false,
-        [first, others @ ..] => {
-            is_letter(*first) && are_name_bytes(others) && name.len() <= 255
-        }
+        [first, others @ ..] => { is_letter(*first) && are_name_bytes(others) && name.len() <= 255 }
     }
 }
 
@@ -97,7 +95,7 @@ fn is_command(command: &[u8]) -> bool
 }
 
 /// What stands behind a piece that a text begins with.
-fn text_after<'a>(text: &'a [u8], piece: &[u8]) -> Option<&'a [u8]>
+pub fn text_after<'a>(text: &'a [u8], piece: &[u8]) -> Option<&'a [u8]>
     ensures { MatchOption result ((rest : List ℕ) → text.now ≡ piece.now ++ rest → ⊥) (λ rest. text.now ≡ piece.now ++ rest.now) }
 {
     if text.len() < piece.len() {
@@ -185,7 +183,10 @@ fn cut_fields(text: &[u8]) -> Option<ThinFields<'_>>
 fn is_closed(text: &[u8]) -> bool
     ensures { MatchBool result (IsClosed text.now) (IsClosed text.now → ⊥) }
 {
-    match text_after(text, b" format 'TabSeparated')) LAYOUT(FLAT()) LIFETIME(0);") {
+    match text_after(
+        text,
+        b" format 'TabSeparated')) LAYOUT(FLAT()) LIFETIME(0);",
+    ) {
         Some(tail) => tail.is_empty() || tail == b"\n".as_slice(),
         None => false,
     }
@@ -222,7 +223,11 @@ fn source_from(command: Bytes) -> SourceOf
 }
 
 /// The definition of names and a command.
-fn copied(alloc: Global, fields: &ThinFields<'_>, command: Bytes) -> Result<ThinDefinition, NoMemory>
+fn copied(
+    alloc: Global,
+    fields: &ThinFields<'_>,
+    command: Bytes,
+) -> Result<ThinDefinition, NoMemory>
     ensures { IfOk result (λ d. d ≡ record { name = fields.now.name.now; key = fields.now.key.now; attribute = fields.now.attribute.now; source = source_of command }) }
 {
     Ok(ThinDefinition {

@@ -41,9 +41,24 @@ returns-then-not-is_closed c = λ name key attribute again command h0.
     c.if-not-is_closed.ensures h5
 
 pub returns : goal.returns
-returns c =
-    (c.in-Some.text1.now, c.in-Some.ensures.0, c.in-Some.ensures.1,
-    (c.in-Some-field_after.text2.now, c.in-Some-field_after.ensures.0, c.in-Some-field_after.ensures.1,
-    (c.in-Some-field_after-2.text3.now, c.in-Some-field_after-2.ensures.0, c.in-Some-field_after-2.ensures.1,
-    (c.in-Some-field_after-3.text4.now, c.in-Some-field_after-3.ensures.0, c.in-Some-field_after-3.ensures.1,
-    (c.in-Some-field_after-4.text5.now, c.in-Some-field_after-4.ensures.0, c.in-Some-field_after-4.ensures.1, c.if-not-is_closed.ensures)))))
+returns c = (
+  c.in-Some.text1.now,
+  c.in-Some.ensures.0,
+  c.in-Some.ensures.1,
+  (
+    c.in-Some-field_after.text2.now,
+    c.in-Some-field_after.ensures.0,
+    c.in-Some-field_after.ensures.1,
+    (
+      c.in-Some-field_after-2.text3.now,
+      c.in-Some-field_after-2.ensures.0,
+      c.in-Some-field_after-2.ensures.1,
+      (
+        c.in-Some-field_after-3.text4.now,
+        c.in-Some-field_after-3.ensures.0,
+        c.in-Some-field_after-3.ensures.1,
+        (c.in-Some-field_after-4.text5.now, c.in-Some-field_after-4.ensures.0, c.in-Some-field_after-4.ensures.1, c.if-not-is_closed.ensures),
+      ),
+    ),
+  ),
+)
