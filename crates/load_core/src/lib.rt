@@ -9,10 +9,12 @@ pub mod dictionary;
 pub mod judge;
 pub mod laws;
 pub mod strict;
+#[cfg(test)]
+mod tests;
 pub mod world;
 
 pub use caller::{CallerCore, CallerEffect, CallerEvent};
-pub use dictionary::{DictCore, DictEffect, DictEvent, Ending, LastCause, Phase};
-pub use judge::Judge;
+pub use dictionary::{DictCore, DictEffect, DictEvent, Ending, LastCause, MOST_LOADS, Phase};
+pub use judge::{Judge, StrictJudge};
 pub use strict::{TableFault, TextRow, read_table};
 pub use world::{Ended, World, WorldCaller, WorldDict, WorldEntry, WorldEvent};
