@@ -1,7 +1,7 @@
 // The cores and the world on worked rows.
 use crate::{
     CallerCore, DictCore, DictEffect, DictEvent, Ended, Ending, LastCause, MOST_LOADS, Phase,
-    World, WorldEvent,
+    World, WorldEvent, read_table,
 };
 use dict_value::{Bytes, Cause, Exit};
 use std::test::Fail;
@@ -108,4 +108,16 @@ fn each_pair_of_phase_and_event(rt: HostRuntime) {
     assert_eq!(rt; core, after);
     core.loads = MOST_LOADS;
     assert_eq!(rt; core.step(DictEvent::Start), DictEffect::Refused);
+}
+
+#[test]
+fn two_rows_in_the_strict_form(rt: HostRuntime) -> Result<(), Fail> {
+    let rows = read_table(rt.alloc(), b"1\ta\n2\tb\n")?;
+    let [first, second] = rows.as_slice() else {
+        return Err(Fail::from("not two rows"));
+    };
+    assert_eq!(rt; (first.key, second.key), (1, 2));
+    assert_eq!(rt; first.text.as_slice(), b"a".as_slice());
+    assert_eq!(rt; second.text.as_slice(), b"b".as_slice());
+    Ok(())
 }
