@@ -1,10 +1,12 @@
 -- The laws over every list of events, from what holds of each world.
-use Rattle.std.proofs.Common.{◌≡◌, ℕ, ◌≤◌, max, List, [], ◌∷◌, ◌++◌, length, Option, Some, None, refl, sym, ◌∙◌, ap, subst, inl, inr, arith, append_assoc, slice_get, All}
+use Rattle.std.proofs.Common.{◌≡◌, ℕ, ◌≤◌, max, List, [], ◌∷◌, ◌++◌, length, Option, Some, None, refl, sym, ◌∙◌, ap, subst, inl, inr, arith, append_assoc, slice_get, All, nat_lt, false, if◌then◌else◌}
 use Rattle.std.specs.List.Sorted.{IsNonDecreasing}
 use Rattle.std.proofs.lemmas.List.{append-nil}
 use Rattle.std.proofs.lemmas.List.Elements.{All-nil, All-cons, All-append}
 use Rattle.std.proofs.lemmas.Option.{none-some}
+use Rattle.std.proofs.lemmas.Bool.Decides.{nat_tests}
 use Rattle.dict_value.specs.declared.fault.Cause.{Cause}
+use Rattle.load_core.specs.declared.caller.CallerEffect.TheVariants.{Kept, Older}
 use Rattle.load_core.specs.declared.dictionary.DictEffect.{DictEffect}
 use Rattle.load_core.specs.declared.dictionary.DictEffect.TheVariants as effect
 use Rattle.load_core.specs.declared.dictionary.DictEvent.TheVariants as core
@@ -18,7 +20,7 @@ use Rattle.load_core.specs.declared.world.WorldDict.{WorldDict}
 use Rattle.load_core.specs.declared.world.WorldCaller.{WorldCaller}
 use Rattle.load_core.specs.declared.world.World.{World}
 use Rattle.load_core.specs.WorldSteps.{Verdicts, Finishes, Takes, DictStep, Answers, CallerEvents, Step, Run, last_number, dict_at, with_dict, caller_at, learnt, empty_world}
-use Rattle.load_core.specs.Laws.{entries_in, entries_of, posted_in, posted_of, cause_in, cause_of, answers_in, answers_of, EachDict, Grows, IsNumbered, IsRising, IsCounted, IsPosted, OneLoadEach, IsOfOneLoad, FailingKeeps, PublishedClears, RefusedKeeps, IsLengthAtEnter, LengthsAtEnter, NeverFall, NeverBelowLearnt}
+use Rattle.load_core.specs.Laws.{entries_in, entries_of, posted_in, posted_of, cause_in, cause_of, answers_in, answers_of, EachDict, Grows, IsNumbered, IsRising, IsCounted, IsPosted, OneLoadEach, IsOfOneLoad, FailingKeeps, PublishedClears, RefusedKeeps, IsLengthAtEnter, LengthsAtEnter, NeverFall, NeverOlder, NeverBelowLearnt}
 use Rattle.load_core.proofs.Callers.{last_number_is}
 use Rattle.load_core.proofs.Dictionaries.{IsSound}
 use Rattle.load_core.proofs.Lists.{All-from_slice_get}
@@ -114,6 +116,14 @@ module _ (judges : Verdicts) where
       go : (o : Option WorldCaller) → caller_at now c d ≡ o → IsNonDecreasing (answers_in o)
       go None e = λ i j k p l. absurd (omega arith)
       go (Some u) e = ((sound_world judges n m events now r).callers c d u e).ordered
+
+  pub never_older : NeverOlder judges
+  never_older n m events now r c d u x known found =
+      let w = sound_world judges n m events now r in
+      let floor : u.core.floor ≤ length x.entries = subst (λ (es : List WorldEntry). u.core.floor ≤ length es) (ap entries_in found) (w.callers c d u known).floor in
+      let number : last_number x.entries ≡ length x.entries = last_number_is x.entries (w.dicts d x found).numbers in
+      let test : nat_lt (last_number x.entries) u.core.floor ≡ false = grind (arith, nat_tests) in
+      ap (λ b. if b then Older u.core.floor else Kept) test
 
   -- what one event adds to the answers of a caller isn't below a number that its floor has reached
   abbrev Adds : World → World → ℕ → ℕ → ℕ → Type 0

@@ -38,72 +38,99 @@ abbrev pub posted : DictCore → Stepped
 posted c = record { core = record c { phase = Idle }; effect = effect.Posted }
 
 -- a test on numbers with what it tells
-tested : (m n : ℕ) → ((nat_lt m n ≡ true) × (m < n)) ⊎ ((nat_lt m n ≡ false) × (n ≤ m))
+abbrev Tested : ℕ → ℕ → Type 0
+Tested m n = ((nat_lt m n ≡ true) × (m < n)) ⊎ ((nat_lt m n ≡ false) × (n ≤ m))
+
+tested : (m n : ℕ) → Tested m n
 tested m n = grind (arith, nat_tests)
 
 -- a Start is taken where no load runs and the loads aren't used up
-pub start_row : (c : DictCore) → ((c.phase ≡ Idle) × (c.loads < 9223372036854775807) × (stepped c Start ≡ begun c)) ⊎ (stepped c Start ≡ refused c)
+abbrev pub StartRow : DictCore → Type 0
+StartRow c =
+    ((c.phase ≡ Idle) × (c.loads < 9223372036854775807) × (stepped c Start ≡ begun c)) ⊎ (stepped c Start ≡ refused c)
+
+pub start_row : (c : DictCore) → StartRow c
 start_row c = go c.phase refl
   where
-    test : c.phase ≡ Idle → ((nat_lt c.loads 9223372036854775807 ≡ true) × (c.loads < 9223372036854775807)) ⊎ ((nat_lt c.loads 9223372036854775807 ≡ false) × (9223372036854775807 ≤ c.loads)) → ((c.phase ≡ Idle) × (c.loads < 9223372036854775807) × (stepped c Start ≡ begun c)) ⊎ (stepped c Start ≡ refused c)
+    test : c.phase ≡ Idle → Tested c.loads 9223372036854775807 → StartRow c
     test e (inl t) = inl (e, t.1, ap (λ p. row p Start c) e ∙ ap (λ b. if b then begun c else refused c) t.0)
     test e (inr t) = inr (ap (λ p. row p Start c) e ∙ ap (λ b. if b then begun c else refused c) t.0)
 
-    go : (p : Phase) → c.phase ≡ p → ((c.phase ≡ Idle) × (c.loads < 9223372036854775807) × (stepped c Start ≡ begun c)) ⊎ (stepped c Start ≡ refused c)
+    go : (p : Phase) → c.phase ≡ p → StartRow c
     go Idle e = test e (tested c.loads 9223372036854775807)
     go Reading e = inr (ap (λ p. row p Start c) e)
     go Ready e = inr (ap (λ p. row p Start c) e)
     go ToPost e = inr (ap (λ p. row p Start c) e)
 
 -- a piece is taken while a load is read, and it isn't empty
-pub piece_row : (c : DictCore) (n : ℕ) → ((c.phase ≡ Reading) × (0 < n) × (stepped c (Piece n) ≡ taken c)) ⊎ ((stepped c (Piece n) ≡ refused c) × (c.phase ≡ Reading → n ≡ 0))
+abbrev pub PieceRow : DictCore → ℕ → Type 0
+PieceRow c n =
+    ((c.phase ≡ Reading) × (0 < n) × (stepped c (Piece n) ≡ taken c)) ⊎ ((stepped c (Piece n) ≡ refused c) × (c.phase ≡ Reading → n ≡ 0))
+
+pub piece_row : (c : DictCore) (n : ℕ) → PieceRow c n
 piece_row c n = go c.phase refl
   where
-    test : c.phase ≡ Reading → ((nat_lt 0 n ≡ true) × (0 < n)) ⊎ ((nat_lt 0 n ≡ false) × (n ≤ 0)) → ((c.phase ≡ Reading) × (0 < n) × (stepped c (Piece n) ≡ taken c)) ⊎ ((stepped c (Piece n) ≡ refused c) × (c.phase ≡ Reading → n ≡ 0))
+    test : c.phase ≡ Reading → Tested 0 n → PieceRow c n
     test e (inl t) = inl (e, t.1, ap (λ p. row p (Piece n) c) e ∙ ap (λ b. if b then taken c else refused c) t.0)
     test e (inr t) = inr (ap (λ p. row p (Piece n) c) e ∙ ap (λ b. if b then taken c else refused c) t.0, λ q. omega arith)
 
-    go : (p : Phase) → c.phase ≡ p → ((c.phase ≡ Reading) × (0 < n) × (stepped c (Piece n) ≡ taken c)) ⊎ ((stepped c (Piece n) ≡ refused c) × (c.phase ≡ Reading → n ≡ 0))
+    go : (p : Phase) → c.phase ≡ p → PieceRow c n
     go Idle e = inr (ap (λ p. row p (Piece n) c) e, λ q. let k : Idle ≡ Reading = sym e ∙ q in cc)
     go Reading e = test e (tested 0 n)
     go Ready e = inr (ap (λ p. row p (Piece n) c) e, λ q. let k : Ready ≡ Reading = sym e ∙ q in cc)
     go ToPost e = inr (ap (λ p. row p (Piece n) c) e, λ q. let k : ToPost ≡ Reading = sym e ∙ q in cc)
 
 -- rows are taken while a load is read
-pub rows_row : (c : DictCore) → ((c.phase ≡ Reading) × (stepped c (Finish Rows) ≡ read c)) ⊎ ((stepped c (Finish Rows) ≡ refused c) × (c.phase ≢ Reading))
+abbrev pub RowsRow : DictCore → Type 0
+RowsRow c =
+    ((c.phase ≡ Reading) × (stepped c (Finish Rows) ≡ read c)) ⊎ ((stepped c (Finish Rows) ≡ refused c) × (c.phase ≢ Reading))
+
+pub rows_row : (c : DictCore) → RowsRow c
 rows_row c = go c.phase refl
   where
-    go : (p : Phase) → c.phase ≡ p → ((c.phase ≡ Reading) × (stepped c (Finish Rows) ≡ read c)) ⊎ ((stepped c (Finish Rows) ≡ refused c) × (c.phase ≢ Reading))
+    go : (p : Phase) → c.phase ≡ p → RowsRow c
     go Idle e = inr (ap (λ p. row p (Finish Rows) c) e, λ q. let k : Idle ≡ Reading = sym e ∙ q in cc)
     go Reading e = inl (e, ap (λ p. row p (Finish Rows) c) e)
     go Ready e = inr (ap (λ p. row p (Finish Rows) c) e, λ q. let k : Ready ≡ Reading = sym e ∙ q in cc)
     go ToPost e = inr (ap (λ p. row p (Finish Rows) c) e, λ q. let k : ToPost ≡ Reading = sym e ∙ q in cc)
 
 -- a failure is taken while a load runs that hasn't ended
-pub failed_row : (c : DictCore) (cause : Cause) → ((running c.phase ≡ 1) × (stepped c (Finish (Failed cause)) ≡ failed c cause)) ⊎ ((stepped c (Finish (Failed cause)) ≡ refused c) × (c.phase ≢ Reading))
+abbrev pub FailedRow : DictCore → Cause → Type 0
+FailedRow c cause =
+    ((running c.phase ≡ 1) × (stepped c (Finish (Failed cause)) ≡ failed c cause)) ⊎ ((stepped c (Finish (Failed cause)) ≡ refused c) × (c.phase ≢ Reading))
+
+pub failed_row : (c : DictCore) (cause : Cause) → FailedRow c cause
 failed_row c cause = go c.phase refl
   where
-    go : (p : Phase) → c.phase ≡ p → ((running c.phase ≡ 1) × (stepped c (Finish (Failed cause)) ≡ failed c cause)) ⊎ ((stepped c (Finish (Failed cause)) ≡ refused c) × (c.phase ≢ Reading))
+    go : (p : Phase) → c.phase ≡ p → FailedRow c cause
     go Idle e = inr (ap (λ p. row p (Finish (Failed cause)) c) e, λ q. let k : Idle ≡ Reading = sym e ∙ q in cc)
     go Reading e = inl (ap running e, ap (λ p. row p (Finish (Failed cause)) c) e)
     go Ready e = inl (ap running e, ap (λ p. row p (Finish (Failed cause)) c) e)
     go ToPost e = inr (ap (λ p. row p (Finish (Failed cause)) c) e, λ q. let k : ToPost ≡ Reading = sym e ∙ q in cc)
 
 -- rows that are there can be published
-pub publish_row : (c : DictCore) → ((c.phase ≡ Ready) × (stepped c Publish ≡ published c)) ⊎ ((stepped c Publish ≡ refused c) × (c.phase ≢ Ready))
+abbrev pub PublishRow : DictCore → Type 0
+PublishRow c =
+    ((c.phase ≡ Ready) × (stepped c Publish ≡ published c)) ⊎ ((stepped c Publish ≡ refused c) × (c.phase ≢ Ready))
+
+pub publish_row : (c : DictCore) → PublishRow c
 publish_row c = go c.phase refl
   where
-    go : (p : Phase) → c.phase ≡ p → ((c.phase ≡ Ready) × (stepped c Publish ≡ published c)) ⊎ ((stepped c Publish ≡ refused c) × (c.phase ≢ Ready))
+    go : (p : Phase) → c.phase ≡ p → PublishRow c
     go Idle e = inr (ap (λ p. row p Publish c) e, λ q. let k : Idle ≡ Ready = sym e ∙ q in cc)
     go Reading e = inr (ap (λ p. row p Publish c) e, λ q. let k : Reading ≡ Ready = sym e ∙ q in cc)
     go Ready e = inl (e, ap (λ p. row p Publish c) e)
     go ToPost e = inr (ap (λ p. row p Publish c) e, λ q. let k : ToPost ≡ Ready = sym e ∙ q in cc)
 
 -- the end of a load can be posted
-pub post_row : (c : DictCore) → ((c.phase ≡ ToPost) × (stepped c Post ≡ posted c)) ⊎ (stepped c Post ≡ refused c)
+abbrev pub PostRow : DictCore → Type 0
+PostRow c =
+    ((c.phase ≡ ToPost) × (stepped c Post ≡ posted c)) ⊎ (stepped c Post ≡ refused c)
+
+pub post_row : (c : DictCore) → PostRow c
 post_row c = go c.phase refl
   where
-    go : (p : Phase) → c.phase ≡ p → ((c.phase ≡ ToPost) × (stepped c Post ≡ posted c)) ⊎ (stepped c Post ≡ refused c)
+    go : (p : Phase) → c.phase ≡ p → PostRow c
     go Idle e = inr (ap (λ p. row p Post c) e)
     go Reading e = inr (ap (λ p. row p Post c) e)
     go Ready e = inr (ap (λ p. row p Post c) e)

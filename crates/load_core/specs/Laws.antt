@@ -4,6 +4,8 @@ use Rattle.std.specs.List.{range_with_len}
 use Rattle.std.specs.List.Sorted.{IsNonDecreasing, IsStrictlyIncreasing}
 use Rattle.dict_value.specs.declared.fault.Cause.{Cause}
 use Rattle.dict_value.specs.declared.fault.Exit.TheVariants.{Code}
+use Rattle.load_core.specs.declared.caller.CallerEffect.TheVariants.{Kept}
+use Rattle.load_core.specs.declared.caller.CallerEvent.TheVariants.{Entered}
 use Rattle.load_core.specs.declared.dictionary.DictEffect.TheVariants as effect
 use Rattle.load_core.specs.declared.dictionary.Ending.TheVariants.{Failed}
 use Rattle.load_core.specs.declared.dictionary.LastCause.{LastCause}
@@ -18,7 +20,8 @@ use Rattle.load_core.specs.declared.world.WorldEntry.{WorldEntry}
 use Rattle.load_core.specs.declared.world.WorldDict.{WorldDict}
 use Rattle.load_core.specs.declared.world.WorldCaller.{WorldCaller}
 use Rattle.load_core.specs.declared.world.World.{World}
-use Rattle.load_core.specs.WorldSteps.{Verdicts, Finishes, Answers, Step, Run, dict_at, caller_at, empty_world}
+use Rattle.load_core.specs.CallerSteps.{effect_of}
+use Rattle.load_core.specs.WorldSteps.{Verdicts, Finishes, Answers, Step, Run, dict_at, caller_at, last_number, empty_world}
 
 -- the entries of the dictionary at a place, which are none where there is no dictionary
 abbrev pub entries_in : Option WorldDict → List WorldEntry
@@ -183,6 +186,12 @@ abbrev pub NeverFall : Verdicts → Type 0
 NeverFall judges =
     (dictionaries callers : ℕ) (events : List WorldEvent) (now : World) → Run judges (empty_world dictionaries callers) events now →
     (c d : ℕ) → IsNonDecreasing (answers_of now c d)
+
+-- an Enter is never older than what the caller knows
+abbrev pub NeverOlder : Verdicts → Type 0
+NeverOlder judges =
+    (dictionaries callers : ℕ) (events : List WorldEvent) (now : World) → Run judges (empty_world dictionaries callers) events now →
+    (c d : ℕ) (u : WorldCaller) (x : WorldDict) → caller_at now c d ≡ Some u → dict_at now d ≡ Some x → effect_of u.core (Entered (last_number x.entries)) ≡ Kept
 
 -- what a caller is answered after it learnt a number isn't below that number
 abbrev pub NeverBelowLearnt : Verdicts → Type 0

@@ -4,3 +4,4 @@ pub mod Laws
 pub mod StrictRows
 pub mod StrictVerdicts
 pub mod WorldSteps
+pub mod WorldTurns

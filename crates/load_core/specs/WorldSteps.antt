@@ -1,5 +1,5 @@
 -- What may happen to a world of dictionaries and callers.
-use Rattle.std.specs.Prelude.{◌≡◌, ℕ, zero, ◌+◌, max, ◌⊎◌, List, [], ◌∷◌, ◌++◌, length, map, replicate, Option, Some, None, pos, nat_le, if◌then◌else◌, slice_get, slice_set, unwrap_or}
+use Rattle.std.specs.Prelude.{◌≡◌, ℕ, zero, ◌+◌, ◌⊎◌, List, [], ◌∷◌, ◌++◌, length, map, replicate, Option, Some, None, pos, nat_le, if◌then◌else◌, slice_get, slice_set, unwrap_or}
 use Rattle.std.specs.List.{range_with_len}
 use Rattle.dict_value.specs.declared.fault.Cause.{Cause}
 use Rattle.dict_value.specs.declared.fault.Cause.TheVariants as cause

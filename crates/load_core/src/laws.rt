@@ -1,5 +1,5 @@
 // What holds over every list of events.
-ghost use Rattle.load_core.specs.Laws.{EachDict, Grows, IsNumbered, IsRising, IsCounted, IsPosted, OneLoadEach, FailingKeeps, PublishedClears, RefusedKeeps, LengthsAtEnter, NeverFall, NeverBelowLearnt};
+ghost use Rattle.load_core.specs.Laws.{EachDict, Grows, IsNumbered, IsRising, IsCounted, IsPosted, OneLoadEach, FailingKeeps, PublishedClears, RefusedKeeps, LengthsAtEnter, NeverFall, NeverOlder, NeverBelowLearnt};
 
 use crate::judge::Judge;
 
@@ -18,5 +18,6 @@ pub fn core_law<J: Judge>()
     ensures posted { EachDict J.judges IsPosted }
     ensures at_enter { LengthsAtEnter J.judges }
     ensures never_fall { NeverFall J.judges }
+    ensures never_older { NeverOlder J.judges }
     ensures never_below { NeverBelowLearnt J.judges }
 {}

@@ -1,7 +1,9 @@
 //! The pure machine of loads, publications and callers, which every thread of the server moves by.
 //!
 //! It promises that a core steps by its table, that an event which its phase doesn't take is
-//! answered Refused and changes nothing, and that no step takes memory.
+//! answered Refused and changes nothing, that no step takes memory, that a world runs by the steps
+//! of its cores, and, of every list of events and every judge of outputs, the law in [`laws`]:
+//! lists only grow, by entries of whole loads that the judge accepts, and no caller goes back.
 #![tactic(auto)]
 
 pub mod caller;
@@ -9,10 +11,12 @@ pub mod dictionary;
 pub mod judge;
 pub mod laws;
 pub mod strict;
+#[cfg(test)]
+mod tests;
 pub mod world;
 
 pub use caller::{CallerCore, CallerEffect, CallerEvent};
-pub use dictionary::{DictCore, DictEffect, DictEvent, Ending, LastCause, Phase};
-pub use judge::Judge;
+pub use dictionary::{DictCore, DictEffect, DictEvent, Ending, LastCause, MOST_LOADS, Phase};
+pub use judge::{Judge, StrictJudge};
 pub use strict::{TableFault, TextRow, read_table};
 pub use world::{Ended, World, WorldCaller, WorldDict, WorldEntry, WorldEvent};

@@ -1,4 +1,4 @@
-use Rattle.load_core.proofs.LawLemmas.{grows, numbers, loads_rise, counts, posted_is, one_load_each, failing_keeps, published_clears, refused_keeps, at_enter, never_fall, never_below}
+use Rattle.load_core.proofs.LawLemmas.{grows, numbers, loads_rise, counts, posted_is, one_load_each, failing_keeps, published_clears, refused_keeps, at_enter, never_fall, never_older, never_below}
 use Rattle.load_core.proofs.laws.core_law.Goals as goal
 
 pub returns-clause-grows : goal.returns-clause-grows
@@ -36,3 +36,6 @@ returns-clause-never_fall g c = never_fall g.J.Judge.judges
 
 pub returns-clause-never_below : goal.returns-clause-never_below
 returns-clause-never_below g c = never_below g.J.Judge.judges
+
+pub returns-clause-never_older : goal.returns-clause-never_older
+returns-clause-never_older g c = never_older g.J.Judge.judges
