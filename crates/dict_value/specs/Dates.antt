@@ -1,20 +1,23 @@
 -- Dates and seconds: the ClickHouse documentation's Date and DateTime, in this profile, on the civil calendar
 -- and in UTC.
-use Rattle.std.specs.Prelude.{ℕ, zero, suc, ◌+◌, ◌-◌, ◌*◌, ◌/◌, ◌%◌, ◌^◌, Bool, ◌&&◌, ◌||◌, ◌==◌, nat_lt, nat_le, int_le, if◌then◌else◌, List, [], ◌∷◌, ◌++◌, length, take, drop, slice_index, Option, Some, None, Result, Ok, Err, ℤ, pos, negsuc, ◌+ℤ◌, ◌-ℤ◌, ◌*ℤ◌, unsigned_abs}
-use Rattle.std.specs.Option.{option_map}
+use Rattle.std.specs.Prelude.{ℕ, ◌+◌, ◌*◌, ◌/◌, ◌%◌, ◌^◌, Bool, ◌&&◌, ◌==◌, nat_lt, nat_le, int_le, if◌then◌else◌, List, [], ◌∷◌, ◌++◌, length, take, drop, slice_index, Option, Some, None, Result, Err, ℤ, pos, negsuc, ◌+ℤ◌, ◌-ℤ◌, ◌*ℤ◌, unsigned_abs}
+use Rattle.std.specs.Option.{option_map, option_or}
 use Rattle.std.specs.List.{count_by, range_with_len}
 use Rattle.std.specs.Str.{all_ascii_digits}
 use Rattle.std.specs.Str.Parse.{digits_value}
 use Rattle.jiff_core.specs.Calendar.{days_from_civil, days_in_month}
 use Rattle.dict_value.specs.declared.value.BadValue.{BadValue}
 use Rattle.dict_value.specs.declared.value.BadValue.TheVariants.{BadDate, OutOfRange}
-use Rattle.dict_value.specs.Numbers.{is_numeral, given, below}
+use Rattle.dict_value.specs.Numbers.{given, below}
 
 -- a day of the civil calendar
 pub record Civil : Type 0 where
   pub year : ℕ
   pub month : ℕ
   pub day : ℕ
+
+abbrev pub civil : ℕ → ℕ → ℕ → Civil
+civil y m d = record { year = y; month = m; day = d }
 
 -- the number of a day, from 1970-01-01
 abbrev pub day_of : Civil → ℤ
@@ -31,19 +34,21 @@ abbrev pub has_date_form : List ℕ → Bool
 has_date_form text =
     (length text == 10) && all_ascii_digits (take 4 text) && (slice_index text 4 == 45)
     && all_ascii_digits (take 2 (drop 5 text)) && (slice_index text 7 == 45)
-    && all_ascii_digits (drop 8 text)
+    && all_ascii_digits (take 2 (drop 8 text))
 
 -- the year, month and day of a text of that form
 abbrev pub civil_at : List ℕ → Civil
-civil_at text = record {
-  year = digits_value 10 (take 4 text);
-  month = digits_value 10 (take 2 (drop 5 text));
-  day = digits_value 10 (drop 8 text);
-}
+civil_at text =
+    civil (digits_value 10 (take 4 text)) (digits_value 10 (take 2 (drop 5 text)))
+    (digits_value 10 (take 2 (drop 8 text)))
 
 -- the day that a text writes
 abbrev pub civil_in : List ℕ → Option Civil
 civil_in text = if has_date_form text && is_civil (civil_at text) then Some (civil_at text) else None
+
+-- the number of that day
+abbrev pub day_in : List ℕ → Option ℤ
+day_in text = option_map day_of (civil_in text)
 
 -- a number from 0 on and below the bound
 abbrev pub from_zero_below : ℕ → ℤ → Result ℕ BadValue
@@ -52,7 +57,7 @@ from_zero_below bound (negsuc n) = Err OutOfRange
 
 -- the number of the day, from 1970-01-01 to 2149-06-06
 abbrev pub date_of : List ℕ → Result ℕ BadValue
-date_of text = given (civil_in text) BadDate (λ c. from_zero_below (2 ^ 16) (day_of c))
+date_of text = given (day_in text) BadDate (from_zero_below (2 ^ 16))
 
 -- two digits, `:`, two digits, `:`, two digits
 abbrev pub has_clock_form : List ℕ → Bool
@@ -70,19 +75,28 @@ clock_in text =
     if has_clock_form text && nat_lt hour 24 && nat_lt minute 60 && nat_lt second 60
     then Some (hour * 3600 + minute * 60 + second) else None
 
--- the second at a time of a day
-abbrev pub second_at : Option Civil → Option ℕ → Option ℤ
-second_at None clock = None
-second_at (Some c) None = None
-second_at (Some c) (Some n) = Some (day_of c *ℤ pos 86400 +ℤ pos n)
+-- the second at a time of the day with this number
+abbrev pub second_after : Option ℤ → Option ℕ → Option ℤ
+second_after None clock = None
+second_after (Some day) None = None
+second_after (Some day) (Some n) = Some (day *ℤ pos 86400 +ℤ pos n)
 
--- A text of five to ten digits writes the second itself, and another one a date, a space and a time.
-abbrev pub second_in : List ℕ → Option ℤ
-second_in text =
+-- five to ten digits, which write the second itself
+abbrev pub plain_second_in : List ℕ → Option ℤ
+plain_second_in text =
     if nat_le 5 (length text) && nat_le (length text) 10 && all_ascii_digits text
-    then Some (pos (digits_value 10 text))
-    else (if slice_index text 10 == 32 then second_at (civil_in (take 10 text)) (clock_in (drop 11 text))
-    else None)
+    then Some (pos (digits_value 10 text)) else None
+
+-- a date, a space and a time
+abbrev pub civil_second_in : List ℕ → Option ℤ
+civil_second_in text =
+    if slice_index text 10 == 32
+    then second_after (day_in (take 10 text)) (clock_in (drop 11 text))
+    else None
+
+-- the second that a text writes in either form
+abbrev pub second_in : List ℕ → Option ℤ
+second_in text = option_or (plain_second_in text) (civil_second_in text)
 
 -- the second of 32 bits
 abbrev pub second_of : List ℕ → Result ℕ BadValue
@@ -100,11 +114,9 @@ month_of_day n =
     (range_with_len 0 11)
 
 unfoldable pub civil_of_day : ℕ → Civil
-civil_of_day n = record {
-  year = year_of_day n;
-  month = month_of_day n;
-  day = unsigned_abs (pos n -ℤ days_from_civil (pos (year_of_day n)) (month_of_day n) 1) + 1;
-}
+civil_of_day n =
+    civil (year_of_day n) (month_of_day n)
+    (unsigned_abs (pos n -ℤ days_from_civil (pos (year_of_day n)) (month_of_day n) 1) + 1)
 
 -- two digits
 abbrev pub two : ℕ → List ℕ

@@ -1,5 +1,5 @@
 -- What each type reads and writes: the values of the ClickHouse documentation's types, in this profile.
-use Rattle.std.specs.Prelude.{◌≡◌, ℕ, ◌^◌, ◌<◌, Bool, true, false, IsTrue, if◌then◌else◌, List, [], Result, Ok, Err, ℤ, pos, decimal, unsigned_abs, min}
+use Rattle.std.specs.Prelude.{◌≡◌, ℕ, ◌^◌, ◌<◌, IsTrue, if◌then◌else◌, List, [], Result, Ok, Err, pos, decimal, unsigned_abs, min}
 use Rattle.std.specs.Fmt.{signed_decimal}
 use Rattle.dict_value.specs.declared.value.ColType.{ColType}
 use Rattle.dict_value.specs.declared.value.ColType.TheVariants as type
@@ -44,10 +44,10 @@ abbrev pub reading : AttrType → Field → Result Value BadValue
 reading t field.Null = if t.nullable then Ok Null else Err NullNotAllowed
 reading t (field.Text text) = text_reading t.base text
 
--- r is the reading, or no memory was found
-abbrev pub Gives : Result Value BadValue → Result Value BadValue → Type 0
-Gives (Err NoMemory) read = Unit {0}
-Gives r read = r ≡ read
+-- r is the reading, or at a String that no memory was found
+abbrev pub Gives : ColType → Result Value BadValue → Result Value BadValue → Type 0
+Gives type.Str (Err NoMemory) read = Unit {0}
+Gives t r read = r ≡ read
 
 -- a value of a type, Null aside
 abbrev pub HasType : ColType → Value → Type 0

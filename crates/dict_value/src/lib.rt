@@ -4,17 +4,25 @@
 //! finds no memory leaves the list as it was, and that no other call takes memory.
 #![tactic(auto)]
 
+mod addresses;
 pub mod bytes;
+mod dates;
+mod decimals;
 pub mod fault;
+mod identifiers;
 pub mod list;
+mod numbers;
+mod reading;
 pub mod value;
+mod writing;
 
+pub use addresses::{read_address, read_prefix};
 pub use bytes::Bytes;
-pub use fault::{
-    BadRow, BlockFault, CallFault, Cause, Exit, FetchFault, LineFault, NoMemory, Why,
-};
+pub use fault::{BadRow, BlockFault, CallFault, Cause, Exit, FetchFault, LineFault, NoMemory, Why};
 pub use list::ListOf;
+pub use reading::{default_of, read_value};
 pub use value::{
     Address, AttrType, BadValue, ColType, Fetched, FetchedRow, Field, Fields, KeyList, MaybeRow,
     Prefix, Row, Rows, Value,
 };
+pub use writing::write_value;

@@ -84,8 +84,11 @@ pub enum Address {
 }
 
 pub type Row = ListOf<Value>;
+
 pub type KeyList = ListOf<Value>;
+
 pub type Rows = ListOf<Row>;
+
 pub type Fields = ListOf<Field>;
 
 /// A fetched row, or that there is none.
