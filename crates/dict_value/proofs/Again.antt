@@ -1,14 +1,15 @@
 -- What is written of a value is read as the value again.
-use Rattle.std.proofs.Common.{◌≡◌, ℕ, ◌<◌, ◌^◌, ◌≤◌, min, decimal, Ok, ℤ, pos, negsuc, refl, ap, arith, lt-ltb, unsigned_abs, true}
+use Rattle.std.proofs.Common.{◌≡◌, ◌≢◌, ℕ, ◌<◌, ◌^◌, ◌≤◌, min, decimal, Ok, ℤ, pos, negsuc, refl, ap, arith, lt-ltb, unsigned_abs, true}
 use Rattle.dict_value.specs.declared.value.ColType.{ColType}
 use Rattle.dict_value.specs.declared.value.ColType.TheVariants as type
+use Rattle.dict_value.specs.declared.value.AttrType.{AttrType}
 use Rattle.dict_value.specs.declared.value.Value.{Value}
-use Rattle.dict_value.specs.declared.value.Value.TheVariants.{U, I, S, Day, Second, Id, V4, V6, Dec}
+use Rattle.dict_value.specs.declared.value.Value.TheVariants.{U, I, S, Day, Second, Id, V4, V6, Dec, Null}
 use Rattle.dict_value.specs.declared.value.BadValue.TheVariants.{NotANumber}
 use Rattle.std.proofs.lemmas.Bool.Decides.{nat_tests}
 use Rattle.std.specs.Fmt.{signed_decimal}
 use Rattle.dict_value.specs.Numbers.{given, below, within, is_within, unsigned_in, signed_in, number_in}
-use Rattle.dict_value.specs.Values.{as_value, HasType, text_of, text_reading}
+use Rattle.dict_value.specs.Values.{as_value, HasType, FitsColumn, text_of, text_reading}
 use Rattle.dict_value.proofs.Digits.{few_digits}
 use Rattle.dict_value.proofs.WrittenBytes.{id_again, v4_again, v6_again}
 use Rattle.dict_value.proofs.WrittenDates.{date_again, second_again}
@@ -48,3 +49,16 @@ read_again type.Ipv6 (V6 n) h = ap (as_value V6) (v6_again n h)
 read_again (type.Decimal digits scale) (Dec z) h =
     rw (decimal_again scale z (omega (arith, few_digits digits)), lt-ltb (unsigned_abs z) (10 ^ min digits 38) h) refl
 read_again t v h = absurd h
+
+-- a value of a column that isn't Null has the column's type
+pub has_type : (t : AttrType) (v : Value) → FitsColumn t v → v ≢ Null → HasType t.base v
+has_type t Null h some = absurd (some refl)
+has_type t (U n) h some = h
+has_type t (I z) h some = h
+has_type t (S text) h some = h
+has_type t (Day n) h some = h
+has_type t (Second n) h some = h
+has_type t (Id n) h some = h
+has_type t (V4 n) h some = h
+has_type t (V6 n) h some = h
+has_type t (Dec z) h some = h

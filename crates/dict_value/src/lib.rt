@@ -17,6 +17,8 @@ mod identifiers;
 pub mod list;
 mod numbers;
 mod reading;
+#[cfg(test)]
+mod tests;
 pub mod value;
 mod writing;
 

@@ -1,8 +1,9 @@
 // The one text of a value.
-ghost use Rattle.std.specs.Prelude.{◌≡◌, ◌++◌, ◌≤◌, length, take, OnOk, OnErr, IfSome, Ok, ◌/◌, ◌^◌};
-ghost use Rattle.dict_value.specs.Values.{HasType, text_of, text_reading, scale_of};
+ghost use Rattle.std.specs.Prelude.{◌≡◌, ◌≢◌, ◌++◌, ◌≤◌, length, take, OnOk, OnErr, IfSome, Ok, ◌/◌, ◌^◌};
+ghost use Rattle.dict_value.specs.Values.{HasType, FitsColumn, text_of, text_reading, scale_of};
 ghost use Rattle.dict_value.specs.Decimals.{decimal_text, last_digits, without_end_zeros, fraction_text};
 ghost use Rattle.dict_value.specs.Dates.{second_text};
+ghost use Rattle.dict_value.specs.declared.value.Value.TheVariants.{Null};
 
 use crate::bytes::Bytes;
 use crate::dates::{clock_text, day_text};
@@ -109,7 +110,8 @@ fn scale_of(t: ColType) -> u8
 
 /// Appends the one text of a value that isn't Null, unescaped; after `NoMemory` nothing has changed.
 pub fn write_value(t: &AttrType, v: &Value, out: &mut Bytes) -> Result<(), NoMemory>
-    requires { HasType t.now.base v.now }
+    requires fits { FitsColumn t.now v.now }
+    requires some { v.now ≢ Null }
     ensures ok { OnOk result (out.new ≡ out.old ++ text_of t.now.base v.now) }
     ensures err { OnErr result (out.new ≡ out.old) }
     // What is written is read as the value again.
