@@ -4,7 +4,7 @@ use Rattle.std.proofs.lemmas.Str.Parse.{digit_from_value}
 use Rattle.std.specs.Char.{digit_value}
 use Rattle.std.specs.Str.Parse.{AllDigits, digits_value}
 use Rattle.dict_value.proofs.DigitTexts.{number-next, digits-next, digit-at, too-great, value-of}
-use Rattle.dict_value.proofs.digits.read_digits.Goals as goal
+use Rattle.dict_value.proofs.digit_text.read_digits.Goals as goal
 
 pub returns-then-not-is_ascii_digit : goal.returns-then-not-is_ascii_digit
 returns-then-not-is_ascii_digit c = λ d. omega (arith, digit_from_value (get_or c.args.text.now c.loop-byte.byte-index 0) (digit-at c.args.text.now c.loop-byte.byte-index c.loop-byte-test.true d.each), c.if-not-is_ascii_digit.ensures.cases)
