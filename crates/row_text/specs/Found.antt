@@ -10,3 +10,8 @@ use Rattle.row_text.specs.Cutting.{IsOpen, IsWhole, keeps_open}
 abbrev pub Finds : CutRule → List ℕ → List ℕ → Found → Type 0
 Finds rule row piece (found.Row place) = (place < length piece) × (slice_index piece place ≡ line_feed) × IsWhole rule (row ++ take place piece)
 Finds rule row piece (found.Inside inside) = IsOpen rule (row ++ piece) × (inside ≡ keeps_open rule (row ++ piece))
+
+-- the place is one of the piece's
+abbrev pub IsWithin : List ℕ → Found → Type 0
+IsWithin piece (found.Row place) = place < length piece
+IsWithin piece (found.Inside inside) = Unit {0}

@@ -1,5 +1,5 @@
 -- What a cutter knows of the bytes that it was fed.
-use Rattle.std.specs.Prelude.{◌≡◌, ◌+◌, ◌∷◌, ◌++◌, [], nat_lt, ℕ, List, length}
+use Rattle.std.specs.Prelude.{◌≡◌, ◌<◌, ◌≤◌, ◌+◌, ◌∷◌, ◌++◌, [], nat_lt, ℕ, List, length}
 use Rattle.row_text.specs.declared.cutter.CutRule.{CutRule}
 use Rattle.row_text.specs.declared.cutter.Cut.{Cut}
 use Rattle.row_text.specs.declared.cutter.Cut.TheVariants as cut
@@ -19,3 +19,8 @@ abbrev pub Feeds : CutRule → List ℕ → List ℕ → Cut → Cutter → Type
 Feeds rule row piece (cut.Row count) after =
     (front tail : List ℕ) × (piece ≡ front ++ line_feed ∷ tail) × (count ≡ length front + 1) × IsWhole rule (row ++ front) × Holds rule after []
 Feeds rule row piece cut.More after = Holds rule after (row ++ piece)
+
+-- a row end is one of the piece's
+abbrev pub IsCutOf : List ℕ → Cut → Type 0
+IsCutOf piece (cut.Row count) = (0 < count) × (count ≤ length piece)
+IsCutOf piece cut.More = Unit {0}

@@ -1,6 +1,7 @@
 pub mod Letters
 pub mod Marks
 pub mod TabRow
+pub mod TabSteps
 pub mod CsvRow
 pub mod Cutting
 pub mod Held

@@ -1,5 +1,5 @@
 -- One row of TabSeparated text, without its line feed: which fields it has, or its first fault, and how one is written.
-use Rattle.std.specs.Prelude.{◌≡◌, ◌==◌, ◌∷◌, ◌++◌, [], if◌then◌else◌, Bool, true, false, ℕ, List, take, drop, map, Result, Ok, Err}
+use Rattle.std.specs.Prelude.{◌≡◌, ◌==◌, ◌∷◌, ◌++◌, [], if◌then◌else◌, Bool, true, false, ℕ, List, take, drop, map, Option, Some, None, Result, Ok, Err}
 use Rattle.std.specs.List.{flat_map, join_with_byte, slice_split}
 use Rattle.dict_value.specs.declared.value.Field.{Field}
 use Rattle.dict_value.specs.declared.value.Field.TheVariants as field
@@ -29,13 +29,17 @@ field_of marks = if is_null marks then field.Null else field.Text (map meant mar
 abbrev pub fields_of : List Mark → List Field
 fields_of marks = map field_of (slice_split is_tab marks)
 
--- whether the last mark is a carriage return that no backslash took
+-- whether a mark is a carriage return that no backslash took
+abbrev pub is_return : Mark → Bool
+is_return (bare b) = b == carriage_return
+is_return (escaped b) = false
+is_return (hex high low) = false
+
+-- whether the last mark is one
 abbrev pub ends_in_return : List Mark → Bool
 ends_in_return [] = false
-ends_in_return (bare b ∷ []) = b == carriage_return
-ends_in_return (escaped b ∷ []) = false
-ends_in_return (hex high low ∷ []) = false
-ends_in_return (first ∷ next ∷ marks) = ends_in_return (next ∷ marks)
+ends_in_return (mark ∷ []) = is_return mark
+ends_in_return (mark ∷ next ∷ marks) = ends_in_return (next ∷ marks)
 
 -- the line is a row of these fields
 abbrev pub IsRow : List ℕ → List Field → Type 0
@@ -65,18 +69,26 @@ GivenMemory (Err fault.CarriageReturn) P = P
 GivenMemory (Err fault.NotOneRecord) P = P
 GivenMemory (Err fault.NoMemory) P = Unit {0}
 
--- a byte as it is written: the written escapes are \b \f \r \n \t \0 \' \\
-unfoldable pub written_byte : ℕ → List ℕ
-written_byte b =
-    if b == backspace then backslash ∷ 98 ∷ []
-    else if b == form_feed then backslash ∷ 102 ∷ []
-    else if b == carriage_return then backslash ∷ 114 ∷ []
-    else if b == line_feed then backslash ∷ 110 ∷ []
-    else if b == tab then backslash ∷ 116 ∷ []
-    else if b == 0 then backslash ∷ 48 ∷ []
-    else if b == single_quote then backslash ∷ single_quote ∷ []
-    else if b == backslash then backslash ∷ backslash ∷ []
-    else b ∷ []
+-- the letter behind the backslash that a byte is written with: the written escapes are \b \f \r \n \t \0 \' \\
+unfoldable pub written_letter : ℕ → Option ℕ
+written_letter b =
+    if b == backspace then Some 98
+    else if b == form_feed then Some 102
+    else if b == carriage_return then Some 114
+    else if b == line_feed then Some 110
+    else if b == tab then Some 116
+    else if b == 0 then Some 48
+    else if b == single_quote then Some single_quote
+    else if b == backslash then Some backslash
+    else None
+
+-- a byte as it is written, where it has this letter
+abbrev pub written_as : ℕ → Option ℕ → List ℕ
+written_as b None = b ∷ []
+written_as b (Some letter) = backslash ∷ letter ∷ []
+
+abbrev pub written_byte : ℕ → List ℕ
+written_byte b = written_as b (written_letter b)
 
 abbrev pub field_text : Field → List ℕ
 field_text field.Null = backslash ∷ capital_n ∷ []

@@ -2,7 +2,7 @@
 ghost use Rattle.std.specs.Prelude.{◌≡◌, ◌↔◌, ◌∷◌, ◌++◌, [], ℕ, List, IfOk, IsTrue, OnOk};
 ghost use Rattle.std.specs.List.{AllByRecursion, flat_map};
 ghost use Rattle.row_text.specs.Cutting.{Cuts, IsOpen, IsWhole, ended, keeps_open};
-ghost use Rattle.row_text.specs.Found.{Finds};
+ghost use Rattle.row_text.specs.Found.{Finds, IsWithin};
 ghost use Rattle.row_text.specs.Held.{Holds};
 ghost use Rattle.row_text.specs.declared.cutter.CutRule.{CutRule};
 
@@ -43,7 +43,7 @@ pub struct Cutter {
 
 impl Cutter {
     ghost use Rattle.row_text.specs.declared.cutter.CutRule.{CutRule};
-    ghost use Rattle.row_text.specs.Held.{Feeds, Holds};
+    ghost use Rattle.row_text.specs.Held.{Feeds, Holds, IsCutOf};
 
     /// At the start of a text.
     pub fn new(rule: CutRule) -> Cutter
@@ -58,7 +58,8 @@ impl Cutter {
 
     /// Takes the bytes of a piece up to the first row end in it, or all of them.
     pub fn feed(&mut self, piece: &[u8]) -> Cut
-        ensures { (rule : CutRule) (row : List ℕ) → Holds rule self.old row → Feeds rule row piece.now result self.new }
+        ensures within { IsCutOf piece.now result }
+        ensures feeds { (rule : CutRule) (row : List ℕ) → Holds rule self.old row → Feeds rule row piece.now result self.new }
     {
         match row_end(self.rule, self.inside, piece) {
             Found::Row(place) => {
@@ -96,13 +97,14 @@ fn inside_after(rule: CutRule, inside: bool, byte: u8) -> bool
     match rule {
         CutRule::Plain => false,
         CutRule::Tab => byte == BACKSLASH && !inside,
-        CutRule::Csv => (byte == DOUBLE_QUOTE) != inside,
+        CutRule::Csv => if byte == DOUBLE_QUOTE { !inside } else { inside },
     }
 }
 
 #[inline(always)]
 fn row_end(rule: CutRule, before: bool, piece: &[u8]) -> Found
-    ensures { (row : List ℕ) → IsOpen rule row → before ≡ keeps_open rule row → Finds rule row piece.now result }
+    ensures within { IsWithin piece.now result }
+    ensures finds { (row : List ℕ) → IsOpen rule row → before ≡ keeps_open rule row → Finds rule row piece.now result }
 {
     let mut inside = before;
     for (place, b) in piece.iter().enumerate() {
