@@ -2,6 +2,9 @@ mod Pieces
 mod MarkLists
 mod Reached
 mod Written
+mod CsvReads
+mod CsvPlain
+mod CsvWritten
 mod Escapes
 mod OneReading
 mod CutSteps

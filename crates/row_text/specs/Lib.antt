@@ -3,6 +3,7 @@ pub mod Marks
 pub mod TabRow
 pub mod TabSteps
 pub mod CsvRow
+pub mod CsvSteps
 pub mod Cutting
 pub mod Held
 pub mod Found
