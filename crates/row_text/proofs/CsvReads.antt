@@ -16,7 +16,7 @@ use Rattle.dict_value.specs.declared.value.Field.{Field}
 use Rattle.dict_value.specs.declared.value.Field.TheVariants as field
 use Rattle.dict_value.specs.declared.fault.LineFault.{LineFault}
 use Rattle.dict_value.specs.declared.fault.LineFault.TheVariants as fault
-use Rattle.row_text.specs.CsvRow.{CsvAnswers, IsRecord}
+use Rattle.row_text.specs.CsvRow.{CsvAnswers, IsCsvRow, IsRecord}
 use Rattle.row_text.specs.TabRow.{GivenMemory}
 
 -- a reader that has read nothing of these bytes yet
@@ -78,8 +78,11 @@ one-record line a b (s, left, (p, e, is, rest), end) (s', left', (p', e', is', r
     let same : p ≡ p' = cc (sym e ∙ e') in
     is ∙ ap (λ (r : Read). r.0) same ∙ sym is'
 
+pub one-csv_row : (line : List ℕ) (f g : List Field) → IsCsvRow line f → IsCsvRow line g → f ≡ g
+one-csv_row line f g p q = p.2 ∙ ap (map field.Text) (one-record line p.0 q.0 p.1 q.1) ∙ sym q.2
+
 one-answer : (line : List ℕ) (a b : Result (List Field) LineFault) → CsvAnswers line a → CsvAnswers line b → a ≡ b
-one-answer line (Ok f) (Ok g) p q = ap (λ (t : List Field). Ok t) (p.2 ∙ ap (map field.Text) (one-record line p.0 q.0 p.1 q.1) ∙ sym q.2)
+one-answer line (Ok f) (Ok g) p q = ap (λ (t : List Field). Ok t) (one-csv_row line f g p q)
 one-answer line (Ok f) (Err (fault.BadEscape j)) p q = absurd q
 one-answer line (Ok f) (Err fault.CarriageReturn) p q = absurd q
 one-answer line (Ok f) (Err fault.NotOneRecord) p q = absurd (q p.0 p.1)

@@ -1,11 +1,13 @@
+mod CutSteps
 mod Pieces
+pub mod OneCutting
 mod MarkLists
+mod Escapes
 mod Reached
+pub mod OneReading
 mod Written
-mod CsvReads
+pub mod CsvReads
 mod CsvPlain
 mod CsvWritten
-mod Escapes
-mod OneReading
-mod CutSteps
-pub mod OneCutting
+pub mod Tabled
+pub mod CutGrowth

@@ -9,7 +9,7 @@ use Rattle.dict_value.specs.declared.fault.LineFault.{LineFault}
 use Rattle.dict_value.specs.declared.fault.LineFault.TheVariants as fault
 use Rattle.row_text.specs.Letters.{backslash, letter_x}
 use Rattle.row_text.specs.Marks.{Mark, bare, escaped, hex, hex_digit, IsBadEscape, IsMark, Spells, begins_with_digits, spelled}
-use Rattle.row_text.specs.TabRow.{Answers, GivenMemory, ends_in_return, fields_of}
+use Rattle.row_text.specs.TabRow.{Answers, GivenMemory, IsRow, ends_in_return, fields_of}
 
 -- nothing, or a bad escape: no mark stands in front
 abbrev Stuck : List ℕ → Type 0
@@ -92,9 +92,13 @@ one-place line i j ms ns p bad q bad' =
 one-end : (line : List ℕ) (ms ns : List Mark) → Spells line ms → Spells line ns → ends_in_return ms ≡ false → ends_in_return ns ≡ true → ⊥
 one-end line ms ns p q open' shut = both_ways _ open' (ap ends_in_return (one-marks line ms ns p q) ∙ shut)
 
+-- the fields of a line
+pub one-row : (line : List ℕ) (f g : List Field) → IsRow line f → IsRow line g → f ≡ g
+one-row line f g p q = p.3 ∙ ap fields_of (one-marks line p.0 q.0 p.1 q.1) ∙ sym q.3
+
 -- the one answer
 pub one-answer : (line : List ℕ) (a b : Result (List Field) LineFault) → Answers line a → Answers line b → a ≡ b
-one-answer line (Ok f) (Ok g) p q = ap (λ (t : List Field). Ok t) (p.3 ∙ ap fields_of (one-marks line p.0 q.0 p.1 q.1) ∙ sym q.3)
+one-answer line (Ok f) (Ok g) p q = ap (λ (t : List Field). Ok t) (one-row line f g p q)
 one-answer line (Ok f) (Err (fault.BadEscape j)) p q = absurd (no-bad line p.0 j q.0 p.1 q.1 q.2)
 one-answer line (Ok f) (Err fault.CarriageReturn) p q = absurd (one-end line p.0 q.0 p.1 q.1 p.2 q.2)
 one-answer line (Ok f) (Err fault.NotOneRecord) p q = absurd q

@@ -1,6 +1,6 @@
 -- One row of CSV, without its line feed: which fields it has, by the reading machine of `csv`, and how one is written.
-use Rattle.std.specs.Prelude.{◌≡◌, ◌∷◌, ◌++◌, if◌then◌else◌, [], ℕ, List, map, Result, Ok, Err}
-use Rattle.std.specs.List.{AllByRecursion}
+use Rattle.std.specs.Prelude.{◌≡◌, ◌∷◌, ◌++◌, ◌==◌, if◌then◌else◌, [], Bool, ℕ, List, map, Result, Ok, Err}
+use Rattle.std.specs.List.{list_all}
 use Rattle.csv.specs.Reading.{AreRecords, default_config, strip_bom}
 use Rattle.csv.specs.Writing.{default_writer, is_blank, row_body, row_text}
 use Rattle.csv.specs.declared.parser.State.TheVariants as st
@@ -48,6 +48,6 @@ abbrev pub BeginsWithMark : List Field → Type 0
 BeginsWithMark [] = ⊥
 BeginsWithMark (first ∷ fields) = (rest : List ℕ) × (csv_field first ≡ 0xEF ∷ 0xBB ∷ 0xBF ∷ rest)
 
--- a line of nothing but carriage returns is no row
-abbrev pub IsBlank : List ℕ → Type 0
-IsBlank line = AllByRecursion (λ b. b ≡ carriage_return) line
+-- whether a line has nothing but carriage returns, and so is no row
+abbrev pub is_blank_line : List ℕ → Bool
+is_blank_line line = list_all (λ b. b == carriage_return) line

@@ -6,7 +6,7 @@ ghost use Rattle.dict_value.specs.declared.value.Field.{Field};
 ghost use Rattle.dict_value.specs.declared.value.Field.TheVariants as field;
 ghost use Rattle.dict_value.specs.declared.fault.LineFault.{LineFault};
 ghost use Rattle.row_text.specs.Cutting.{IsWhole, ended};
-ghost use Rattle.row_text.specs.CsvRow.{BeginsWithMark, CsvAnswers, IsBlank, IsCsvRow, csv_field, csv_fields, csv_line, csv_text};
+ghost use Rattle.row_text.specs.CsvRow.{BeginsWithMark, CsvAnswers, IsCsvRow, csv_field, csv_fields, csv_line, csv_text, is_blank_line};
 ghost use Rattle.row_text.specs.CsvSteps.{IsPlainText, RecordOf};
 ghost use Rattle.row_text.specs.TabRow.{GivenMemory};
 ghost use Rattle.row_text.specs.declared.cutter.CutRule.TheVariants as rule;
@@ -24,7 +24,6 @@ const MARK: u8 = 0xEF;
 
 /// The fields of one row, which comes without its line feed.
 pub fn read_csv_row(alloc: Global, line: &[u8]) -> Result<Fields, LineFault>
-    requires { length line.now ≤ 4294967295 }
     // The fields where the line is one record, and else that it is not.
     ensures exact { GivenMemory result (CsvAnswers line.now result) }
     // There is no other answer to it.
@@ -176,7 +175,7 @@ fn texts_of(alloc: Global, fields: &[Field]) -> Result<Vec<&[u8]>, NoMemory>
 
 /// Whether a line has nothing but carriage returns, and so is no row.
 pub fn is_blank(line: &[u8]) -> bool
-    ensures { IsTrue result ↔ IsBlank line.now }
+    ensures { result ≡ is_blank_line line.now }
 {
     line.iter().all(|b| *b == CARRIAGE_RETURN)
 }
