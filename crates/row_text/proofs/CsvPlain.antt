@@ -1,7 +1,6 @@
 -- A row without quotes and line ends is split at its commas.
-use Rattle.std.proofs.Common.{◌≡◌, ◌≢◌, ◌≤◌, ◌<◌, ◌+◌, ◌-◌, ◌∷◌, ◌++◌, ◌∙◌, ◌==◌, [], ℕ, List, length, take, drop, map, get_or, Some, None, refl, sym, ap, subst, arith, append_assoc, false}
-use Rattle.std.proofs.Math.Seq.{take-add}
-use Rattle.std.proofs.lemmas.List.{append-nil, drop-drop, drop_more, get_or-drop, length-drop, map-append, take-append-drop, take_all, take_rest}
+use Rattle.std.proofs.Common.{◌≡◌, ◌≢◌, ◌≤◌, ◌<◌, ◌+◌, ◌-◌, ◌∷◌, ◌++◌, ◌∙◌, [], ℕ, List, length, take, drop, map, get_or, Some, refl, sym, ap, arith, append_assoc}
+use Rattle.std.proofs.lemmas.List.{append-nil, drop-drop, drop_more, length-drop, map-append, take-append-drop, take_all, take_rest}
 use Rattle.std.proofs.lemmas.Bool.{ne_eqb}
 use Rattle.csv.specs.Machine.{next_record}
 use Rattle.csv.specs.Reading.{Reached, default_config, strip_bom}
@@ -12,7 +11,7 @@ use Rattle.dict_value.specs.declared.value.Field.TheVariants as field
 use Rattle.row_text.specs.Letters.{carriage_return, double_quote, line_feed}
 use Rattle.row_text.specs.CsvRow.{IsCsvRow, IsRecord}
 use Rattle.row_text.specs.CsvSteps.{IsPlainText, comma}
-use Rattle.row_text.proofs.Reached.{at-suffix, suffix}
+use Rattle.row_text.proofs.Reached.{suffix}
 
 -- plain bytes join the field at hand
 plain-run : (texts : List (List ℕ)) (text run tail : List ℕ) → IsPlainText run
@@ -41,7 +40,7 @@ unfolding next_record
 field-last texts [] p = refl
 field-last texts (b ∷ run) p =
     let whole : next_record default_config st.InField texts [] (b ∷ run) ≡ next_record default_config st.InField texts (b ∷ run) [] =
-        ap (λ (t : List ℕ). next_record default_config st.InField texts [] t) (sym (append-nil (b ∷ run))) ∙ plain-run texts [] (b ∷ run) [] p in
+    ap (λ (t : List ℕ). next_record default_config st.InField texts [] t) (sym (append-nil (b ∷ run))) ∙ plain-run texts [] (b ∷ run) [] p in
     start-same texts [] b run (ne_eqb b double_quote p.0.1) ∙ whole
 
 -- the fields before a place of the line where the next one begins
@@ -61,14 +60,14 @@ split-more line at run fields texts s lt here plain =
     let left = suffix line at in
     let size : length left ≡ length line - at = ap length (take_rest line at) ∙ length-drop at line in
     let parts : drop at line ≡ take run left ++ comma ∷ drop (at + run + 1) line =
-        sym (take_rest line at) ∙ sym (take-append-drop run left)
-        ∙ ap (λ (t : List ℕ). take run left ++ t) (drop_more left run 0 lt ∙ ap (λ (b : ℕ). b ∷ drop (run + 1) left) here
-        ∙ ap (λ (t : List ℕ). comma ∷ t) (ap (drop (run + 1)) (take_rest line at) ∙ drop-drop (run + 1) at line ∙ ap (λ (k : ℕ). drop k line) (omega arith))) in
+    sym (take_rest line at) ∙ sym (take-append-drop run left)
+    ∙ ap (λ (t : List ℕ). take run left ++ t) (drop_more left run 0 lt ∙ ap (λ (b : ℕ). b ∷ drop (run + 1) left) here
+    ∙ ap (λ (t : List ℕ). comma ∷ t) (ap (drop (run + 1)) (take_rest line at) ∙ drop-drop (run + 1) at line ∙ ap (λ (k : ℕ). drop k line) (omega arith))) in
     record {
       within = omega (arith, s.within);
       are = ap (λ (fs : List Field). fs ++ field.Text (take run left) ∷ []) s.are ∙ sym (map-append field.Text texts (take run left ∷ []));
       later = sym (field-comma texts (take run left) (drop (at + run + 1) line) plain)
-        ∙ ap (λ (t : List ℕ). next_record default_config st.StartField texts [] t) (sym parts) ∙ s.later;
+          ∙ ap (λ (t : List ℕ). next_record default_config st.StartField texts [] t) (sym parts) ∙ s.later;
     }
 
 no-mark : (line : List ℕ) → get_or line 0 0 ≢ 0xEF → strip_bom line ≡ line
@@ -85,7 +84,7 @@ split-last line at run fields texts s end mark plain =
     let left = suffix line at in
     let all : take run left ≡ drop at line = take_all run left (omega arith) ∙ take_rest line at in
     let read : next_record default_config st.StartRecord [] [] line ≡ Some (texts ++ take run left ∷ [], st.StartRecord, []) =
-        sym s.later ∙ ap (λ (t : List ℕ). next_record default_config st.StartField texts [] t) (sym all) ∙ field-last texts (take run left) plain in
+    sym s.later ∙ ap (λ (t : List ℕ). next_record default_config st.StartField texts [] t) (sym all) ∙ field-last texts (take run left) plain in
     let whole : IsRecord line (texts ++ take run left ∷ []) =
-        (st.StartRecord, [], ((texts ++ take run left ∷ [], st.StartRecord, []), ap (next_record default_config st.StartRecord [] []) (no-mark line mark) ∙ read, refl, (refl, refl)), refl) in
+    (st.StartRecord, [], ((texts ++ take run left ∷ [], st.StartRecord, []), ap (next_record default_config st.StartRecord [] []) (no-mark line mark) ∙ read, refl, (refl, refl)), refl) in
     (texts ++ take run left ∷ [], whole, ap (λ (fs : List Field). fs ++ field.Text (take run left) ∷ []) s.are ∙ sym (map-append field.Text texts (take run left ∷ [])))

@@ -1,12 +1,12 @@
 -- A written CSV row is one row, and is read again.
-use Rattle.std.proofs.Common.{◌≡◌, ◌≢◌, ◌≤◌, ◌<◌, ◌+◌, ◌∷◌, ◌++◌, ◌∙◌, ◌==◌, ◌⊎◌, [], ℕ, List, length, map, Option, Some, None, refl, sym, ap, subst, inl, inr, arith, append_assoc, true, false, not, Bool}
+use Rattle.std.proofs.Common.{◌≡◌, ◌≢◌, ◌∷◌, ◌++◌, ◌∙◌, ◌==◌, [], ℕ, List, length, map, Option, Some, None, refl, sym, ap, subst, inl, inr, arith, append_assoc, true, false, not, Bool}
 use Rattle.std.specs.Prelude.{if◌then◌else◌}
 use Rattle.std.specs.List.{list_any}
 use Rattle.std.proofs.lemmas.List.{append-nil, length-append}
-use Rattle.std.proofs.lemmas.Bool.{cases_Bool, eqb-true, eqb-false, eq-eqb, ne_eqb, or_parts}
+use Rattle.std.proofs.lemmas.Bool.{cases_Bool, eqb-true, eqb-false, ne_eqb, or_parts}
 use Rattle.csv.specs.Machine.{Read, field_after, fields_after, is_end, next_record, step}
 use Rattle.csv.specs.Reading.{Reached, default_config, strip_bom}
-use Rattle.csv.specs.Writing.{default_writer, escaped, field_text, fields_text, is_blank, needs_byte, row_body, row_text}
+use Rattle.csv.specs.Writing.{default_writer, escaped, field_text, fields_text, is_blank, needs_byte, row_body}
 use Rattle.csv.specs.declared.parser.State.{State}
 use Rattle.csv.specs.declared.parser.State.TheVariants as st
 use Rattle.csv.proofs.RoundTrip.{read-write}
@@ -192,7 +192,7 @@ row-again (f ∷ fields) some mark =
     let texts = map csv_field (f ∷ fields) in
     let line = csv_line (f ∷ fields) in
     let first : line ≡ field_text default_writer (csv_field f) ++ (fields_text default_writer (map csv_field fields) ++ (if is_blank default_writer texts then double_quote ∷ double_quote ∷ [] else [])) =
-        append_assoc (field_text default_writer (csv_field f)) (fields_text default_writer (map csv_field fields)) _ in
+    append_assoc (field_text default_writer (csv_field f)) (fields_text default_writer (map csv_field fields)) _ in
     let whole : strip_bom line ≡ line = no-mark line (λ rest e. mark (first-mark (csv_field f) _ rest (behind-first (map csv_field fields) (is_blank default_writer texts)) (sym first ∙ e))) in
     let both : csv_text (f ∷ fields) ++ 97 ∷ [] ≡ line ++ line_feed ∷ 97 ∷ [] = ap (λ (t : List ℕ). t ++ 97 ∷ []) (text-line (f ∷ fields)) ∙ append_assoc line (line_feed ∷ []) (97 ∷ []) in
     let read = before-end line st.StartRecord st.StartRecord [] texts [] (ap (next_record default_config st.StartRecord [] []) (sym both) ∙ read-write texts (97 ∷ [])) in

@@ -1,14 +1,14 @@
 -- A row, byte by byte.
-use Rattle.std.proofs.Common.{◌≡◌, ◌≢◌, ◌≤◌, ◌<◌, ◌+◌, ◌-◌, ◌*◌, ◌/◌, ◌%◌, ◌∷◌, ◌++◌, ◌∙◌, ◌==◌, ◌⊎◌, ◌&&◌, [], ℕ, zero, suc, List, length, take, drop, get_or, refl, sym, ap, subst, inl, inr, arith, append_assoc, true, false, Bool, not, cond, eqb, below_more}
-use Rattle.std.specs.Prelude.{reverse, count_by}
-use Rattle.std.specs.List.{prefix_len, sum_by, suffix_len}
+use Rattle.std.proofs.Common.{◌≡◌, ◌≤◌, ◌<◌, ◌+◌, ◌%◌, ◌∷◌, ◌++◌, ◌∙◌, ◌==◌, [], ℕ, List, length, refl, sym, ap, inl, inr, arith, true, false, Bool, not, cond}
+use Rattle.std.specs.Prelude.{count_by}
+use Rattle.std.specs.List.{suffix_len}
 use Rattle.std.proofs.lemmas.List.{get_or_append_left, get_or_at, length-append, reverse-append, take-append-le, take_at}
 use Rattle.std.proofs.lemmas.List.Sums.{sum_by_push}
-use Rattle.std.proofs.lemmas.Bool.{cases_Bool, eqb-true, eq-eqb, ne_eqb, cases_eq}
+use Rattle.std.proofs.lemmas.Bool.{cases_Bool, eq-eqb, ne_eqb, cases_eq}
 use Rattle.row_text.specs.declared.cutter.CutRule.{CutRule}
 use Rattle.row_text.specs.declared.cutter.CutRule.TheVariants as rule
 use Rattle.row_text.specs.Letters.{backslash, double_quote, line_feed}
-use Rattle.row_text.specs.Cutting.{IsOpen, IsWhole, is_odd, keeps_open}
+use Rattle.row_text.specs.Cutting.{IsOpen, is_odd, keeps_open}
 
 -- whether a line feed behind this byte is kept, where one before it was
 abbrev pub toggled : CutRule → Bool → ℕ → Bool

@@ -1,11 +1,11 @@
 -- Lists of marks, put together.
-use Rattle.std.proofs.Common.{◌≡◌, ◌≢◌, ◌≤◌, ◌<◌, ◌+◌, ◌-◌, ◌∷◌, ◌++◌, ◌∙◌, [], ◌==◌, ℕ, zero, suc, List, length, take, drop, map, get_or, refl, sym, ap, subst, arith, append_assoc, true, false, Bool}
+use Rattle.std.proofs.Common.{◌≡◌, ◌∷◌, ◌++◌, ◌∙◌, [], ◌==◌, ℕ, zero, suc, List, length, map, get_or, refl, sym, ap, arith, true, false}
 use Rattle.std.specs.List.{AllByRecursion, flat_map}
 use Rattle.std.proofs.lemmas.List.{append-nil}
 use Rattle.std.proofs.lemmas.Bool.{ne_eqb}
 use Rattle.std.proofs.lemmas.List.Concat.{flat_map-append}
-use Rattle.row_text.specs.Letters.{tab, backslash, carriage_return}
-use Rattle.row_text.specs.Marks.{Mark, bare, escaped, hex, IsMark, Spells, meant, spelled}
+use Rattle.row_text.specs.Letters.{tab, carriage_return}
+use Rattle.row_text.specs.Marks.{Mark, bare, IsMark, Spells, meant, spelled}
 use Rattle.row_text.specs.TabRow.{ends_in_return, is_tab}
 use Rattle.row_text.specs.TabSteps.{IsPlain}
 

@@ -1,6 +1,5 @@
 -- A line has one answer.
-use Rattle.std.proofs.Common.{◌≡◌, ◌≢◌, ◌≤◌, ◌<◌, ◌+◌, ◌-◌, ◌∷◌, ◌++◌, ◌∙◌, ◌==◌, ◌⊎◌, ◌&&◌, [], ℕ, zero, suc, List, length, take, drop, map, refl, sym, ap, subst, inl, inr, arith, append_assoc, true, false, Bool, Option, Some, None, Result, Ok, Err}
-use Rattle.std.specs.Prelude.{IsSome, is_some}
+use Rattle.std.proofs.Common.{◌≡◌, ◌<◌, ◌-◌, ◌∷◌, ◌++◌, ◌∙◌, ◌⊎◌, [], ℕ, List, length, take, drop, refl, sym, ap, subst, inl, inr, arith, append_assoc, true, false, Result, Ok, Err}
 use Rattle.std.specs.List.{AllByRecursion, flat_map}
 use Rattle.std.proofs.lemmas.List.{append-nil, take-append-drop, length-drop}
 use Rattle.std.proofs.lemmas.Bool.{both_ways}
@@ -8,7 +7,7 @@ use Rattle.dict_value.specs.declared.value.Field.{Field}
 use Rattle.dict_value.specs.declared.fault.LineFault.{LineFault}
 use Rattle.dict_value.specs.declared.fault.LineFault.TheVariants as fault
 use Rattle.row_text.specs.Letters.{backslash, letter_x}
-use Rattle.row_text.specs.Marks.{Mark, bare, escaped, hex, hex_digit, IsBadEscape, IsMark, Spells, begins_with_digits, spelled}
+use Rattle.row_text.specs.Marks.{Mark, bare, escaped, hex, IsBadEscape, IsMark, Spells, begins_with_digits, spelled}
 use Rattle.row_text.specs.TabRow.{Answers, GivenMemory, IsRow, ends_in_return, fields_of}
 
 -- nothing, or a bad escape: no mark stands in front

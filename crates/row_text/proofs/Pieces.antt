@@ -1,6 +1,6 @@
 -- Rows that end in a piece.
-use Rattle.std.proofs.Common.{◌≡◌, ◌≤◌, ◌<◌, ◌+◌, ◌-◌, ◌∷◌, ◌++◌, ◌∙◌, [], ℕ, List, length, take, drop, refl, sym, ap, subst, arith, append_assoc}
-use Rattle.std.specs.List.{AllByRecursion, flat_map}
+use Rattle.std.proofs.Common.{◌≡◌, ◌+◌, ◌-◌, ◌∷◌, ◌++◌, ◌∙◌, [], ℕ, List, length, take, drop, sym, ap, arith, append_assoc}
+use Rattle.std.specs.List.{flat_map}
 use Rattle.std.proofs.lemmas.List.{append-nil, drop_at, length-append, take_all, take_at}
 use Rattle.std.proofs.lemmas.List.Concat.{flat_map-append}
 use Rattle.row_text.specs.Letters.{line_feed}
@@ -24,6 +24,6 @@ pub joined-more : (text row left front tail : List ℕ) (rows : List (List ℕ))
     → text ≡ flat_map ended (rows ++ (row ++ front) ∷ []) ++ tail
 joined-more text row left front tail rows e split =
     let end : row ++ left ≡ ended (row ++ front) ++ tail =
-        ap (λ (t : List ℕ). row ++ t) split ∙ sym (append_assoc row front (line_feed ∷ tail)) ∙ sym (append_assoc (row ++ front) (line_feed ∷ []) tail) in
+    ap (λ (t : List ℕ). row ++ t) split ∙ sym (append_assoc row front (line_feed ∷ tail)) ∙ sym (append_assoc (row ++ front) (line_feed ∷ []) tail) in
     e ∙ ap (λ (t : List ℕ). flat_map ended rows ++ t) end ∙ sym (append_assoc (flat_map ended rows) (ended (row ++ front)) tail)
     ∙ ap (λ (t : List ℕ). t ++ tail) (ap (λ (t : List ℕ). flat_map ended rows ++ t) (sym (append-nil (ended (row ++ front)))) ∙ sym (flat_map-append ended rows ((row ++ front) ∷ [])))

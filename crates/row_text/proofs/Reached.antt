@@ -1,7 +1,7 @@
 -- Reading a field and a line, step by step.
-use Rattle.std.proofs.Common.{◌≡◌, ◌≢◌, ◌≤◌, ◌<◌, ◌+◌, ◌-◌, ◌∷◌, ◌++◌, ◌∙◌, ◌==◌, [], ℕ, zero, suc, List, length, take, drop, map, get_or, Result, Ok, Err, refl, sym, ap, subst, arith, append_assoc, true, false}
+use Rattle.std.proofs.Common.{◌≡◌, ◌≢◌, ◌≤◌, ◌<◌, ◌+◌, ◌-◌, ◌∷◌, ◌++◌, ◌∙◌, [], ℕ, suc, List, length, take, drop, map, get_or, Result, Ok, Err, refl, sym, ap, subst, arith, append_assoc, true, false}
 use Rattle.std.specs.Prelude.{OnOk, is_ok}
-use Rattle.std.specs.List.{AllByRecursion, flat_map, slice_split}
+use Rattle.std.specs.List.{AllByRecursion}
 use Rattle.std.proofs.Math.Seq.{take-add}
 use Rattle.std.proofs.lemmas.List.{append-nil, drop-drop, get_or-drop, get_or-take, length-drop, length-take-le, map-append, take_all, take_more, take_rest}
 use Rattle.std.proofs.lemmas.Bool.{eq-eqb, ne_eqb}
@@ -10,8 +10,8 @@ use Rattle.std.proofs.lemmas.List.Splits.{slice_split_at, slice_split_none}
 use Rattle.dict_value.specs.declared.value.Field.{Field}
 use Rattle.dict_value.specs.declared.fault.LineFault.{LineFault}
 use Rattle.dict_value.specs.declared.fault.LineFault.TheVariants as fault
-use Rattle.row_text.specs.Letters.{carriage_return, tab, backslash}
-use Rattle.row_text.specs.Marks.{Mark, bare, IsBadEscape, Spells, meant, spelled}
+use Rattle.row_text.specs.Letters.{carriage_return, tab}
+use Rattle.row_text.specs.Marks.{Mark, bare, IsBadEscape, Spells, meant}
 use Rattle.row_text.specs.TabRow.{Answers, GivenMemory, IsRow, ends_in_return, field_of, fields_of, is_tab}
 use Rattle.row_text.specs.TabSteps.{FieldOf, HasRead, IsPlain, Reaches, ReadsField}
 use Rattle.row_text.proofs.MarkLists.{all-append, ends-append, ends-append_cons, ends-append_true, run-ends, run-meant, run-spelled, run-untabbed, run-valid, spells-append, spells-nil}
@@ -131,10 +131,10 @@ read-tab line at size fields field ms p found more' =
       spells = rw (take_more line (at + size) 0 lt, here) (spells-append _ _ (ms ++ found.0) (bare tab ∷ []) front end);
       last = ends-append_cons (ms ++ found.0) (bare tab) [];
       later = λ more.
-        ap fields_of (append_assoc (ms ++ found.0) (bare tab ∷ []) more ∙ append_assoc ms found.0 (bare tab ∷ more))
-        ∙ p.later (found.0 ++ bare tab ∷ more)
-        ∙ ap (λ (fs : List Field). fields ++ fs) (fields-tab found.0 more found.1.untabbed ∙ ap (λ (f : Field). f ∷ fields_of more) (sym found.2))
-        ∙ sym (append_assoc fields (field ∷ []) (fields_of more));
+          ap fields_of (append_assoc (ms ++ found.0) (bare tab ∷ []) more ∙ append_assoc ms found.0 (bare tab ∷ more))
+          ∙ p.later (found.0 ++ bare tab ∷ more)
+          ∙ ap (λ (fs : List Field). fields ++ fs) (fields-tab found.0 more found.1.untabbed ∙ ap (λ (f : Field). f ∷ fields_of more) (sym found.2))
+          ∙ sym (append_assoc fields (field ∷ []) (fields_of more));
     }
 
 -- the last field
@@ -142,11 +142,12 @@ pub read-last : (line : List ℕ) (at size : ℕ) (fields : List Field) (field :
     → IsRow line (fields ++ field ∷ [])
 read-last line at size fields field ms p found end =
     let long : length (suffix line at) ≡ length line - at = ap length (take_rest line at) ∙ length-drop at line in
-    let front = line-more line at size fields ms found.0 p found.1.spells in
-    (ms ++ found.0,
+    let front = line-more line at size fields ms found.0 p found.1.spells in (
+      ms ++ found.0,
       subst (λ (t : List ℕ). Spells t (ms ++ found.0)) (take_all (at + size) line (omega arith)) front,
       ends-append ms found.0 p.last (found.4 (omega arith)),
-      sym (p.later found.0 ∙ ap (λ (fs : List Field). fields ++ fs) (fields-last found.0 found.1.untabbed ∙ ap (λ (f : Field). f ∷ []) (sym found.2))))
+      sym (p.later found.0 ∙ ap (λ (fs : List Field). fields ++ fs) (fields-last found.0 found.1.untabbed ∙ ap (λ (f : Field). f ∷ []) (sym found.2))),
+    )
 
 -- a fault
 pub read-fault : (line : List ℕ) (at : ℕ) (fields : List Field) (ms : List Mark) (e : LineFault) → HasRead line at fields ms → ReadsField (suffix line at) at (Err e) → GivenMemory {A = List Field} (Err e) (Answers line (Err e))

@@ -1,7 +1,7 @@
 -- Whole texts and their tables.
 use Rattle.std.proofs.Common.{◌≡◌, ◌≢◌, ◌∷◌, ◌++◌, ◌∙◌, ◌==◌, [], ℕ, List, map, Option, Some, None, refl, sym, ap, subst, inl, inr, true, false, not}
 use Rattle.std.specs.Prelude.{filter}
-use Rattle.std.specs.List.{AllByRecursion, AllZip, flat_map, list_all}
+use Rattle.std.specs.List.{AllByRecursion, AllZip, flat_map}
 use Rattle.std.proofs.lemmas.List.{append-nil}
 use Rattle.std.proofs.lemmas.Bool.{and_parts, cases_Bool, eqb-true}
 use Rattle.csv.specs.Machine.{next_record}
@@ -59,9 +59,11 @@ tab-table rows some = (map row_line rows, subst (λ (t : List ℕ). AreLines rul
     text : (rows : List (List Field)) → flat_map ended (map row_line rows) ≡ flat_map (λ row. ended (row_line row)) rows
     text [] = refl
     text (row ∷ rows) = ap (λ (t : List ℕ). ended (row_line row) ++ t) (text rows)
+
     whole : (rows : List (List Field)) → AllByRecursion (λ row. row ≢ []) rows → AllByRecursion (IsWhole rule.Tab) (map row_line rows)
     whole [] some = tt
     whole (row ∷ rows) some = (tab.row-whole row some.0, whole rows some.1)
+
     read : (rows : List (List Field)) → AllByRecursion (λ row. row ≢ []) rows → AllZip IsRow (map row_line rows) rows
     read [] some = tt
     read (row ∷ rows) some = (tab.row-again row some.0, read rows some.1)
@@ -89,19 +91,24 @@ row-not_blank line fields (texts, (s, left, (p, e, is, rest), end), are) = elim 
 ]
 
 pub csv-table : (rows : List (List Field)) → AllByRecursion (λ row. (row ≢ []) × (¬ BeginsWithMark row)) rows → IsCsvTable (flat_map csv_text rows) (map csv_fields rows)
-csv-table rows some =
-    (map csv_line rows, subst (λ (t : List ℕ). AreLines rule.Csv t (map csv_line rows)) (text rows) (whole-lines rule.Csv (map csv_line rows) (whole rows)),
-      subst (λ (ls : List (List ℕ)). AllZip IsCsvRow ls (map csv_fields rows)) (sym (kept rows some)) (read rows some))
+csv-table rows some = (
+  map csv_line rows,
+  subst (λ (t : List ℕ). AreLines rule.Csv t (map csv_line rows)) (text rows) (whole-lines rule.Csv (map csv_line rows) (whole rows)),
+  subst (λ (ls : List (List ℕ)). AllZip IsCsvRow ls (map csv_fields rows)) (sym (kept rows some)) (read rows some),
+)
   where
     text : (rows : List (List Field)) → flat_map ended (map csv_line rows) ≡ flat_map csv_text rows
     text [] = refl
     text (row ∷ rows) = ap (λ (t : List ℕ). t ++ flat_map ended (map csv_line rows)) (sym (csv.text-line row)) ∙ ap (λ (t : List ℕ). csv_text row ++ t) (text rows)
+
     whole : (rows : List (List Field)) → AllByRecursion (IsWhole rule.Csv) (map csv_line rows)
     whole [] = tt
     whole (row ∷ rows) = (csv.row-whole row, whole rows)
+
     read : (rows : List (List Field)) → AllByRecursion (λ row. (row ≢ []) × (¬ BeginsWithMark row)) rows → AllZip IsCsvRow (map csv_line rows) (map csv_fields rows)
     read [] some = tt
     read (row ∷ rows) some = (csv.row-again row some.0.0 some.0.1, read rows some.1)
+
     kept : (rows : List (List Field)) → AllByRecursion (λ row. (row ≢ []) × (¬ BeginsWithMark row)) rows → filter (λ line. not (is_blank_line line)) (map csv_line rows) ≡ map csv_line rows
     kept [] some = refl
     kept (row ∷ rows) some =

@@ -1,9 +1,9 @@
 -- A written row is read again.
-use Rattle.std.proofs.Common.{◌≡◌, ◌≢◌, ◌≤◌, ◌<◌, ◌+◌, ◌-◌, ◌∷◌, ◌++◌, ◌∙◌, ◌==◌, [], ℕ, zero, suc, List, length, take, drop, map, get_or, Option, Some, None, refl, sym, ap, subst, inl, inr, arith, append_assoc, true, false, not}
+use Rattle.std.proofs.Common.{◌≡◌, ◌≢◌, ◌<◌, ◌∷◌, ◌++◌, ◌∙◌, ◌==◌, [], ℕ, List, length, map, Option, Some, None, refl, sym, ap, subst, inl, inr, arith, append_assoc, true, false}
 use Rattle.std.specs.Prelude.{IsSome}
 use Rattle.std.specs.List.{AllByRecursion, flat_map, join_with_byte}
 use Rattle.std.proofs.lemmas.List.{append-nil, map-append}
-use Rattle.std.proofs.lemmas.Bool.{cases_Bool, eqb-true, eqb-false, eq-eqb, ne_eqb}
+use Rattle.std.proofs.lemmas.Bool.{cases_Bool, eqb-true, eqb-false, ne_eqb}
 use Rattle.std.proofs.lemmas.List.Elements.{All-from_recursion}
 use Rattle.dict_value.specs.declared.value.Field.{Field}
 use Rattle.dict_value.specs.declared.value.Field.TheVariants as field
@@ -73,7 +73,12 @@ record IsWritten (b : ℕ) (text : List ℕ) (mark : Mark) : Type 0 where
 mark-known : (b : ℕ) (letter : Option ℕ) → WritesAs b letter → IsWritten b (written_as b letter) (mark_as b letter)
 mark-known b None p = record { valid = p.0; written = refl; means = refl; untabbed = ne_eqb b tab p.1; open' = ne_eqb b carriage_return p.3; some = refl; one_line = (p.2, tt) }
 mark-known b (Some letter) p = record {
-  valid = p.0; written = refl; means = p.3; untabbed = refl; open' = refl; some = ne_eqb letter capital_n p.1;
+  valid = p.0;
+  written = refl;
+  means = p.3;
+  untabbed = refl;
+  open' = refl;
+  some = ne_eqb letter capital_n p.1;
   one_line = (eqb-false backslash line_feed refl, (p.2, tt));
 }
 
@@ -133,11 +138,15 @@ field-known : (f : Field) → AreOf f (field_marks f)
 unfolding field_marks
 field-known field.Null = record {
   spells = record { valid = (eqb-false capital_n letter_x refl, tt); joined = refl };
-  untabbed = (refl, tt); open' = refl; again = refl;
+  untabbed = (refl, tt);
+  open' = refl;
+  again = refl;
   one_line = (eqb-false backslash line_feed refl, (eqb-false capital_n line_feed refl, tt));
 }
 field-known (field.Text bytes) = record {
-  spells = text-spells bytes; untabbed = text-untabbed bytes; open' = text-open bytes;
+  spells = text-spells bytes;
+  untabbed = text-untabbed bytes;
+  open' = text-open bytes;
   again = rw (text-some bytes) (ap (λ (t : List ℕ). field.Text t) (text-meant bytes));
   one_line = text-one_line bytes;
 }

@@ -1,5 +1,5 @@
 -- What the steps of reading a CSV row find.
-use Rattle.std.specs.Prelude.{◌≡◌, ◌≢◌, ℕ, List, Option, Some, None}
+use Rattle.std.specs.Prelude.{◌≢◌, ℕ, List, Option, Some, None}
 use Rattle.std.specs.List.{AllByRecursion}
 use Rattle.row_text.specs.CsvRow.{IsRecord}
 use Rattle.row_text.specs.Letters.{carriage_return, double_quote, line_feed}

@@ -1,5 +1,5 @@
 -- Where the rows of a text end.
-use Rattle.std.specs.Prelude.{◌≡◌, ◌==◌, ◌+◌, ◌%◌, ◌<◌, ◌∷◌, ◌++◌, [], Bool, true, false, ℕ, List, length, take, slice_index, count_by}
+use Rattle.std.specs.Prelude.{◌≡◌, ◌==◌, ◌%◌, ◌<◌, ◌∷◌, ◌++◌, [], Bool, true, false, ℕ, List, length, take, slice_index, count_by}
 use Rattle.std.specs.List.{AllByRecursion, flat_map, suffix_len}
 use Rattle.row_text.specs.declared.cutter.CutRule.{CutRule}
 use Rattle.row_text.specs.declared.cutter.CutRule.TheVariants as rule

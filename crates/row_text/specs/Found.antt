@@ -1,5 +1,5 @@
 -- Where the first row end of a piece is.
-use Rattle.std.specs.Prelude.{◌≡◌, ◌<◌, ◌∷◌, ◌++◌, [], slice_index, ℕ, List, length, take}
+use Rattle.std.specs.Prelude.{◌≡◌, ◌<◌, ◌++◌, slice_index, ℕ, List, length, take}
 use Rattle.row_text.specs.declared.cutter.CutRule.{CutRule}
 use Rattle.row_text.specs.declared.cutter.Found.{Found}
 use Rattle.row_text.specs.declared.cutter.Found.TheVariants as found

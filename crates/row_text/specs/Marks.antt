@@ -1,5 +1,5 @@
 -- How one byte of a field stands in TabSeparated text.
-use Rattle.std.specs.Prelude.{◌≡◌, ◌≢◌, ◌⊎◌, ◌+◌, ◌-◌, ◌*◌, ◌==◌, ◌&&◌, nat_le, if◌then◌else◌, Bool, true, false, ℕ, List, [], ◌∷◌, Option, Some, None, IsSome, is_some, unwrap_or}
+use Rattle.std.specs.Prelude.{◌≡◌, ◌≢◌, ◌⊎◌, ◌+◌, ◌-◌, ◌*◌, ◌==◌, ◌&&◌, nat_le, if◌then◌else◌, Bool, false, ℕ, List, [], ◌∷◌, Option, Some, None, IsSome, is_some, unwrap_or}
 use Rattle.std.specs.List.{AllByRecursion, flat_map}
 use Rattle.row_text.specs.Letters.{backslash, letter_x}
 

@@ -1,11 +1,11 @@
 -- What the steps of reading a TabSeparated row find.
-use Rattle.std.specs.Prelude.{◌≡◌, ◌≢◌, ◌≤◌, ◌<◌, ◌+◌, ◌∷◌, ◌++◌, [], slice_index, Bool, true, false, ℕ, List, length, take, drop, map, Option, Some, None, Result, Ok, Err}
+use Rattle.std.specs.Prelude.{◌≡◌, ◌≢◌, ◌≤◌, ◌<◌, ◌+◌, ◌∷◌, ◌++◌, [], slice_index, true, false, ℕ, List, length, take, drop, Option, Some, None, Result, Ok, Err}
 use Rattle.std.specs.List.{AllByRecursion}
 use Rattle.dict_value.specs.declared.value.Field.{Field}
 use Rattle.dict_value.specs.declared.fault.LineFault.{LineFault}
 use Rattle.dict_value.specs.declared.fault.LineFault.TheVariants as fault
 use Rattle.row_text.specs.Letters.{tab, backslash}
-use Rattle.row_text.specs.Marks.{Mark, IsMark, IsBadEscape, Spells, meant, spelled}
+use Rattle.row_text.specs.Marks.{Mark, IsBadEscape, Spells, meant}
 use Rattle.row_text.specs.TabRow.{ends_in_return, field_of, fields_of, is_tab}
 
 -- a byte that ends no field and begins no escape
@@ -25,7 +25,7 @@ EscapeOf text (Some escape) = (mark : Mark) × (escape.0 ≡ meant mark) × (esc
 
 -- a field begins at the start of the text and ends at this place
 abbrev pub FieldOf : List ℕ → Field → ℕ → Type 0
-FieldOf rest field stop = (marks : List Mark) × Reaches rest stop marks × (field ≡ field_of marks) 
+FieldOf rest field stop = (marks : List Mark) × Reaches rest stop marks × (field ≡ field_of marks)
     × (stop < length rest → slice_index rest stop ≡ tab) × (stop ≡ length rest → ends_in_return marks ≡ false)
 
 -- what reading a field gives, where the text stands at this place of its line

@@ -16,8 +16,11 @@ use dict_value::{Bytes, Field, Fields, LineFault, ListOf, NoMemory};
 use std::alloc::Global;
 
 const COMMA: u8 = b',';
+
 const CARRIAGE_RETURN: u8 = b'\r';
+
 const LINE_FEED: u8 = b'\n';
+
 const DOUBLE_QUOTE: u8 = b'"';
 /// The first byte of a byte order mark.
 const MARK: u8 = 0xEF;

@@ -10,7 +10,9 @@ use dict_value::{Bytes, ListOf, NoMemory};
 use std::alloc::Global;
 
 const BACKSLASH: u8 = b'\\';
+
 const DOUBLE_QUOTE: u8 = b'"';
+
 const LINE_FEED: u8 = b'\n';
 
 /// Which line feeds end a row.
@@ -97,7 +99,11 @@ fn inside_after(rule: CutRule, inside: bool, byte: u8) -> bool
     match rule {
         CutRule::Plain => false,
         CutRule::Tab => byte == BACKSLASH && !inside,
-        CutRule::Csv => if byte == DOUBLE_QUOTE { !inside } else { inside },
+        CutRule::Csv => if byte == DOUBLE_QUOTE {
+            !inside
+        } else {
+            inside
+        },
     }
 }
 
@@ -117,7 +123,11 @@ fn row_end(rule: CutRule, before: bool, piece: &[u8]) -> Found
 }
 
 /// The rows of a text that comes in these pieces, without their line feeds, up to its last row end.
-pub fn rows_of_pieces(alloc: Global, rule: CutRule, pieces: &[Bytes]) -> Result<ListOf<Bytes>, NoMemory>
+pub fn rows_of_pieces(
+    alloc: Global,
+    rule: CutRule,
+    pieces: &[Bytes],
+) -> Result<ListOf<Bytes>, NoMemory>
     ensures rows { IfOk result (λ rows. (rest : List ℕ) × Cuts rule (flat_map (λ p. p) pieces.now) rows rest) }
     ensures only { IfOk result (λ rows. (others : List (List ℕ)) (rest : List ℕ) → Cuts rule (flat_map (λ p. p) pieces.now) others rest → rows ≡ others) }
 {
@@ -131,7 +141,13 @@ pub fn rows_of_pieces(alloc: Global, rule: CutRule, pieces: &[Bytes]) -> Result<
 }
 
 /// Adds the rows that end in a piece, and keeps what follows them.
-fn cut_piece(alloc: Global, cutter: &mut Cutter, piece: &[u8], row: &mut Bytes, rows: &mut ListOf<Bytes>) -> Result<(), NoMemory>
+fn cut_piece(
+    alloc: Global,
+    cutter: &mut Cutter,
+    piece: &[u8],
+    row: &mut Bytes,
+    rows: &mut ListOf<Bytes>,
+) -> Result<(), NoMemory>
     ensures { OnOk result ((rule : CutRule) → Holds rule cutter.old row.old → Holds rule cutter.new row.new
         × ((ended_rows : List (List ℕ)) × (rows.new ≡ rows.old ++ ended_rows) × AllByRecursion (IsWhole rule) ended_rows × (row.old ++ piece.now ≡ flat_map ended ended_rows ++ row.new))) }
 {

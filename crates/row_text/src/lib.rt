@@ -15,3 +15,6 @@ pub use csv_row::{is_blank, read_csv_row, write_csv_row};
 pub use cutter::{Cut, CutRule, Cutter, rows_of_pieces};
 pub use laws::{one_list_of_lines, one_table, written_tables};
 pub use tab_row::{read_fields, write_row};
+
+#[cfg(test)]
+mod tests;

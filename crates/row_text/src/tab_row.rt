@@ -14,7 +14,9 @@ use dict_value::{Bytes, Field, Fields, LineFault, ListOf, NoMemory};
 use std::alloc::Global;
 
 const BACKSLASH: u8 = b'\\';
+
 const CARRIAGE_RETURN: u8 = b'\r';
+
 const TAB: u8 = b'\t';
 
 /// The fields of one row, which comes without its line feed.

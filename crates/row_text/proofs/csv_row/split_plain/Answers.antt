@@ -31,7 +31,8 @@ fields-preserved c =
     let here : get_or left run 0 ≡ comma = elim c.else-run-left.branch [
       | else-run-left-via-then-run-left+else-left-run-ne-COMMA w ↦ w.if-left-run-ne-COMMA.false
       | else-run-left-via-else-run-left w ↦ absurd (omega (arith, lt, w.if-run-left.false))
-    ] in
-    (c.fields.invariant.0 ++ take run left ∷ [],
+    ] in (
+      c.fields.invariant.0 ++ take run left ∷ [],
       subst (λ (fs : List Field). Splits c.args.line.now (c.fields.at + run + 1) fs (c.fields.invariant.0 ++ take run left ∷ [])) (sym pushed)
-      (split-more c.args.line.now c.fields.at run c.fields.fields c.fields.invariant.0 c.fields.invariant.1 lt here c.plain_len-run.ensures.plain))
+          (split-more c.args.line.now c.fields.at run c.fields.fields c.fields.invariant.0 c.fields.invariant.1 lt here c.plain_len-run.ensures.plain),
+    )

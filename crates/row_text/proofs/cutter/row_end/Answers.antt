@@ -10,8 +10,9 @@ loop-place-preserved c row opened e =
     let before = c.loop-place.invariant row opened e in
     let lt : i < length xs = omega arith in
     let step : row ++ take (i + 1) xs ≡ (row ++ take i xs) ++ get_or xs i 0 ∷ [] =
-        ap (λ (t : List ℕ). row ++ t) (take_more xs i 0 lt) ∙ sym (append_assoc row (take i xs) (get_or xs i 0 ∷ [])) in
+    ap (λ (t : List ℕ). row ++ t) (take_more xs i 0 lt) ∙ sym (append_assoc row (take i xs) (get_or xs i 0 ∷ [])) in
     rw step (
       open-push c.args.rule (row ++ take i xs) (get_or xs i 0) before.0
-      (λ is. elim c.else-b-eq-LINE_FEED.either [ inl both ↦ sym before.1 ∙ both.1 | inr other ↦ absurd (other is) ]),
-      c.inside_after-inside.ensures _ before.1)
+          (λ is. elim c.else-b-eq-LINE_FEED.either [ inl both ↦ sym before.1 ∙ both.1 | inr other ↦ absurd (other is) ]),
+      c.inside_after-inside.ensures _ before.1,
+    )

@@ -8,5 +8,5 @@ abbrev pub invariant-loop-piece : goal.invariant-loop-piece
 invariant-loop-piece l = record {
   held : Holds l.fn.rule l.cutter l.row;
   whole : AllByRecursion (IsWhole l.fn.rule) l.rows;
-  joined : flat_map (λ (p : List ℕ). p) (take l.piece-index l.pieces) ≡ flat_map ended l.rows ++ l.row
+  joined : flat_map (λ (p : List ℕ). p) (take l.piece-index l.pieces) ≡ flat_map ended l.rows ++ l.row;
 }

@@ -1,6 +1,4 @@
-use Rattle.std.proofs.Common.{◌≡◌, ◌++◌, map, take}
-use Rattle.std.specs.List.{join_with_byte}
-use Rattle.row_text.specs.Letters.{tab}
+use Rattle.std.proofs.Common.{◌≡◌, ◌++◌, take}
 use Rattle.row_text.specs.TabRow.{row_line}
 use Rattle.row_text.proofs.tab_row.append_row.Given as goal
 

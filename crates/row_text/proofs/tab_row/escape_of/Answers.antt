@@ -1,4 +1,4 @@
-use Rattle.std.proofs.Common.{◌∙◌, sym, rules, arith}
+use Rattle.std.proofs.Common.{◌∙◌, sym, arith}
 use Rattle.row_text.proofs.Escapes.{escape-hex, escape-one}
 use Rattle.row_text.proofs.tab_row.escape_of.Goals as goal
 

@@ -1,4 +1,4 @@
-use Rattle.std.proofs.Common.{◌≡◌, ◌<◌, ◌+◌, ◌++◌, ◌∷◌, ◌∙◌, [], ℕ, List, length, take, drop, get_or, sym, refl, ap, subst, arith}
+use Rattle.std.proofs.Common.{◌≡◌, ◌<◌, ◌+◌, ◌++◌, ◌∷◌, ◌∙◌, ℕ, List, length, take, drop, sym, refl, ap, subst, arith}
 use Rattle.std.proofs.lemmas.List.{drop_more, length-take-le, take-append-drop}
 use Rattle.row_text.specs.Cutting.{IsOpen, IsWhole, keeps_open}
 use Rattle.row_text.specs.declared.cutter.CutRule.{CutRule}
@@ -14,9 +14,11 @@ returns-in-Row-clause-feeds c by row held =
     let inside : c.args.self.now.inside ≡ keeps_open rule row = held.inside ∙ ap (λ (r : CutRule). keeps_open r row) (sym held.by_rule) in
     let found = c.in-Row.ensures.finds row opened inside in
     let lt : i < length xs = found.0 in
-    let le = length-take-le i xs (omega arith) in
-    (take i xs, drop (i + 1) xs,
+    let le = length-take-le i xs (omega arith) in (
+      take i xs,
+      drop (i + 1) xs,
       sym (take-append-drop i xs) ∙ ap (λ (t : List ℕ). take i xs ++ t) (drop_more xs i 0 lt ∙ ap (λ (b : ℕ). b ∷ drop (i + 1) xs) found.1),
       rw le refl,
       subst (λ (r : CutRule). IsWhole r (row ++ take i xs)) held.by_rule found.2,
-      record { by_rule = held.by_rule; opened = open-nil by; started = refl; inside = sym (keeps_open-nil by) })
+      record { by_rule = held.by_rule; opened = open-nil by; started = refl; inside = sym (keeps_open-nil by) },
+    )
