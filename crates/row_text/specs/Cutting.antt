@@ -32,3 +32,11 @@ pub record Cuts (rule : CutRule) (text : List ℕ) (rows : List (List ℕ)) (res
   pub joined : text ≡ flat_map ended rows ++ rest
   pub whole : AllByRecursion (IsWhole rule) rows
   pub opened : IsOpen rule rest
+
+-- the text is these whole rows, and less than one more
+abbrev pub AreRows : CutRule → List ℕ → List (List ℕ) → Type 0
+AreRows rule text rows = (rest : List ℕ) × Cuts rule text rows rest
+
+-- the text that comes in these pieces
+abbrev pub text_of : List (List ℕ) → List ℕ
+text_of pieces = flat_map (λ piece. piece) pieces

@@ -1,6 +1,5 @@
 // Rows of CSV.
-ghost use Rattle.std.specs.Prelude.{◌≡◌, ◌≢◌, ◌≤◌, ◌<◌, ◌↔◌, ◌⊎◌, ◌∷◌, ◌++◌, [], ℕ, List, Result, length, map, option_map, take, slice_index, IfOk, IfSome, IsTrue, OnErr, OnOk};
-ghost use Rattle.std.specs.List.{AllByRecursion};
+ghost use Rattle.std.specs.Prelude.{◌≡◌, ◌≢◌, ◌≤◌, ◌++◌, [], ℕ, List, Result, length, map, option_map, take, IfOk, IfSome, OnErr, OnOk};
 ghost use Rattle.csv.specs.Records.{fields_of};
 ghost use Rattle.dict_value.specs.declared.value.Field.{Field};
 ghost use Rattle.dict_value.specs.declared.value.Field.TheVariants as field;
@@ -22,6 +21,7 @@ const CARRIAGE_RETURN: u8 = b'\r';
 const LINE_FEED: u8 = b'\n';
 
 const DOUBLE_QUOTE: u8 = b'"';
+
 /// The first byte of a byte order mark.
 const MARK: u8 = 0xEF;
 
@@ -30,7 +30,8 @@ pub fn read_csv_row(alloc: Global, line: &[u8]) -> Result<Fields, LineFault>
     // The fields where the line is one record, and else that it is not.
     ensures exact { GivenMemory result (CsvAnswers line.now result) }
     // There is no other answer to it.
-    ensures only { (answer : Result (List Field) LineFault) → CsvAnswers line.now answer → GivenMemory result (result ≡ answer) }
+    ensures only { (answer : Result (List Field) LineFault) → CsvAnswers line.now answer
+        → GivenMemory result (result ≡ answer) }
 {
     read_line(alloc, line)
 }

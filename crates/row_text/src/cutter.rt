@@ -1,7 +1,7 @@
 // Rows cut out of a text that comes in pieces.
 ghost use Rattle.std.specs.Prelude.{◌≡◌, ◌↔◌, ◌∷◌, ◌++◌, [], ℕ, List, IfOk, IsTrue, OnOk};
 ghost use Rattle.std.specs.List.{AllByRecursion, flat_map};
-ghost use Rattle.row_text.specs.Cutting.{Cuts, IsOpen, IsWhole, ended, keeps_open};
+ghost use Rattle.row_text.specs.Cutting.{AreRows, IsOpen, IsWhole, ended, keeps_open, text_of};
 ghost use Rattle.row_text.specs.Found.{Finds, IsWithin};
 ghost use Rattle.row_text.specs.Held.{Holds};
 ghost use Rattle.row_text.specs.declared.cutter.CutRule.{CutRule};
@@ -61,7 +61,8 @@ impl Cutter {
     /// Takes the bytes of a piece up to the first row end in it, or all of them.
     pub fn feed(&mut self, piece: &[u8]) -> Cut
         ensures within { IsCutOf piece.now result }
-        ensures feeds { (rule : CutRule) (row : List ℕ) → Holds rule self.old row → Feeds rule row piece.now result self.new }
+        ensures feeds { (rule : CutRule) (row : List ℕ) → Holds rule self.old row
+            → Feeds rule row piece.now result self.new }
     {
         match row_end(self.rule, self.inside, piece) {
             Found::Row(place) => {
@@ -128,8 +129,9 @@ pub fn rows_of_pieces(
     rule: CutRule,
     pieces: &[Bytes],
 ) -> Result<ListOf<Bytes>, NoMemory>
-    ensures rows { IfOk result (λ rows. (rest : List ℕ) × Cuts rule (flat_map (λ p. p) pieces.now) rows rest) }
-    ensures only { IfOk result (λ rows. (others : List (List ℕ)) (rest : List ℕ) → Cuts rule (flat_map (λ p. p) pieces.now) others rest → rows ≡ others) }
+    ensures rows { IfOk result (AreRows rule (text_of pieces.now)) }
+    // No other rows are the text's, so it doesn't matter how it was cut into pieces.
+    ensures only { IfOk result (λ rows. (others : List (List ℕ)) → AreRows rule (text_of pieces.now) others → rows ≡ others) }
 {
     let mut rows = ListOf::new(alloc);
     let mut row = Bytes::new(alloc);
@@ -149,7 +151,8 @@ fn cut_piece(
     rows: &mut ListOf<Bytes>,
 ) -> Result<(), NoMemory>
     ensures { OnOk result ((rule : CutRule) → Holds rule cutter.old row.old → Holds rule cutter.new row.new
-        × ((ended_rows : List (List ℕ)) × (rows.new ≡ rows.old ++ ended_rows) × AllByRecursion (IsWhole rule) ended_rows × (row.old ++ piece.now ≡ flat_map ended ended_rows ++ row.new))) }
+        × ((more : List (List ℕ)) × (rows.new ≡ rows.old ++ more) × AllByRecursion (IsWhole rule) more
+        × (row.old ++ piece.now ≡ flat_map ended more ++ row.new))) }
 {
     let mut left = piece;
     while let Cut::Row(count) = cutter.feed(left) {

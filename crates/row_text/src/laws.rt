@@ -10,19 +10,23 @@ ghost use Rattle.row_text.specs.declared.cutter.CutRule.{CutRule};
 
 /// A text has one list of lines.
 pub fn one_list_of_lines()
-    ensures { (rule : CutRule) (text : List ℕ) (lines others : List (List ℕ)) → AreLines rule text lines → AreLines rule text others → lines ≡ others }
+    ensures { (rule : CutRule) (text : List ℕ) (lines others : List (List ℕ)) → AreLines rule text lines
+        → AreLines rule text others → lines ≡ others }
 {}
 
 /// A text is a table of no other rows.
 pub fn one_table()
-    ensures tab { (text : List ℕ) (table other : List (List Field)) → IsTabTable text table → IsTabTable text other → table ≡ other }
-    ensures csv { (text : List ℕ) (table other : List (List Field)) → IsCsvTable text table → IsCsvTable text other → table ≡ other }
+    ensures tab { (text : List ℕ) (table other : List (List Field)) → IsTabTable text table → IsTabTable text other
+        → table ≡ other }
+    ensures csv { (text : List ℕ) (table other : List (List Field)) → IsCsvTable text table → IsCsvTable text other
+        → table ≡ other }
 {}
 
 /// Rows written one after another are a table of these rows.
 pub fn written_tables()
-    ensures tab { (rows : List (List Field)) → AllByRecursion (λ row. row ≢ []) rows → IsTabTable (flat_map (λ row. ended (row_line row)) rows) rows }
-    // In CSV NULL comes back as a text, and what looks like a byte order mark at the front of a row does not come back.
+    ensures tab { (rows : List (List Field)) → AllByRecursion (λ row. row ≢ []) rows
+        → IsTabTable (flat_map (λ row. ended (row_line row)) rows) rows }
+    // In CSV NULL comes back as a text, and a byte order mark at the front of a row does not come back.
     ensures csv { (rows : List (List Field)) → AllByRecursion (λ row. (row ≢ []) × (¬ BeginsWithMark row)) rows
         → IsCsvTable (flat_map csv_text rows) (map csv_fields rows) }
 {}

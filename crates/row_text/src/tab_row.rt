@@ -25,7 +25,8 @@ pub fn read_fields(alloc: Global, line: &[u8]) -> Result<Fields, LineFault>
     // The fields where the line is a row, and else its first fault.
     ensures exact { GivenMemory result (Answers line.now result) }
     // There is no other answer to it.
-    ensures only { (answer : Result (List Field) LineFault) → Answers line.now answer → GivenMemory result (result ≡ answer) }
+    ensures only { (answer : Result (List Field) LineFault) → Answers line.now answer
+        → GivenMemory result (result ≡ answer) }
 {
     read_line(alloc, line)
 }
@@ -89,7 +90,8 @@ fn read_field(alloc: Global, rest: &[u8], start: usize) -> Result<(Field, usize)
 fn run_len(rest: &[u8]) -> usize
     ensures within { result ≤ length rest.now }
     ensures plain { AllByRecursion IsPlain (take result rest.now) }
-    ensures stops { result < length rest.now → (slice_index rest.now result ≡ tab) ⊎ (slice_index rest.now result ≡ backslash) }
+    ensures stops { result < length rest.now
+        → (slice_index rest.now result ≡ tab) ⊎ (slice_index rest.now result ≡ backslash) }
 {
     for (place, b) in rest.iter().enumerate() {
         if *b == TAB || *b == BACKSLASH {

@@ -16,4 +16,4 @@ returns-clause-rows c =
     )
 
 pub returns-clause-only : goal.returns-clause-only
-returns-clause-only c others rest cuts = (same-cuts c.args.rule _ c.loop-piece.rows others _ rest (returns-clause-rows c).1 cuts).0
+returns-clause-only c others (rest, cuts) = (same-cuts c.args.rule _ c.loop-piece.rows others _ rest (returns-clause-rows c).1 cuts).0
