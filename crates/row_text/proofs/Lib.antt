@@ -1,0 +1,13 @@
+mod CutSteps
+mod Pieces
+pub mod OneCutting
+mod MarkLists
+mod Escapes
+mod Reached
+pub mod OneReading
+mod Written
+pub mod CsvReads
+mod CsvPlain
+mod CsvWritten
+pub mod Tabled
+pub mod CutGrowth

@@ -1,0 +1,10 @@
+pub mod Letters
+pub mod Marks
+pub mod TabRow
+pub mod TabSteps
+pub mod CsvRow
+pub mod CsvSteps
+pub mod Cutting
+pub mod Held
+pub mod Found
+pub mod Tables

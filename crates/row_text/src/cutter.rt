@@ -1,0 +1,166 @@
+// Rows cut out of a text that comes in pieces.
+ghost use Rattle.std.specs.Prelude.{◌≡◌, ◌↔◌, ◌∷◌, ◌++◌, [], ℕ, List, IfOk, IsTrue, OnOk};
+ghost use Rattle.std.specs.List.{AllByRecursion, flat_map};
+ghost use Rattle.row_text.specs.Cutting.{AreRows, IsOpen, IsWhole, ended, keeps_open, text_of};
+ghost use Rattle.row_text.specs.Found.{Finds, IsWithin};
+ghost use Rattle.row_text.specs.Held.{Holds};
+ghost use Rattle.row_text.specs.declared.cutter.CutRule.{CutRule};
+
+use dict_value::{Bytes, ListOf, NoMemory};
+use std::alloc::Global;
+
+const BACKSLASH: u8 = b'\\';
+
+const DOUBLE_QUOTE: u8 = b'"';
+
+const LINE_FEED: u8 = b'\n';
+
+/// Which line feeds end a row.
+#[derive(Clone, Copy, Debug, PartialEq, Eq)]
+pub enum CutRule {
+    /// Each one.
+    Plain,
+    /// Each that no backslash took.
+    Tab,
+    /// Each with an even number of double quotes before it in its row.
+    Csv,
+}
+
+/// What a piece brought.
+#[derive(Clone, Copy, Debug, PartialEq, Eq)]
+pub enum Cut {
+    /// So many bytes of the piece end a row, line feed included; what follows them was not taken.
+    Row(usize),
+    /// The whole piece was taken, and no row ended.
+    More,
+}
+
+/// Where in a row the bytes so far end.
+#[derive(Clone, Copy, Debug, PartialEq, Eq)]
+pub struct Cutter {
+    rule: CutRule,
+    started: bool,
+    inside: bool,
+}
+
+impl Cutter {
+    ghost use Rattle.row_text.specs.declared.cutter.CutRule.{CutRule};
+    ghost use Rattle.row_text.specs.Held.{Feeds, Holds, IsCutOf};
+
+    /// At the start of a text.
+    pub fn new(rule: CutRule) -> Cutter
+        ensures { Holds rule result [] }
+    {
+        Cutter {
+            rule,
+            started: false,
+            inside: false,
+        }
+    }
+
+    /// Takes the bytes of a piece up to the first row end in it, or all of them.
+    pub fn feed(&mut self, piece: &[u8]) -> Cut
+        ensures within { IsCutOf piece.now result }
+        ensures feeds { (rule : CutRule) (row : List ℕ) → Holds rule self.old row
+            → Feeds rule row piece.now result self.new }
+    {
+        match row_end(self.rule, self.inside, piece) {
+            Found::Row(place) => {
+                self.started = false;
+                self.inside = false;
+                Cut::Row(place + 1)
+            }
+            Found::Inside(inside) => {
+                self.started = self.started || !piece.is_empty();
+                self.inside = inside;
+                Cut::More
+            }
+        }
+    }
+
+    /// Whether no byte of a row was taken since the last row end.
+    pub fn at_start(&self) -> bool
+        ensures { (rule : CutRule) (row : List ℕ) → Holds rule self.now row → (IsTrue result ↔ (row ≡ [])) }
+    {
+        !self.started
+    }
+}
+
+/// Where the first row end of a piece is, or whether a line feed behind the piece would be kept.
+enum Found {
+    Row(usize),
+    Inside(bool),
+}
+
+/// Whether a line feed behind this byte is kept, given whether one before it was.
+#[inline(always)]
+fn inside_after(rule: CutRule, inside: bool, byte: u8) -> bool
+    ensures { (row : List ℕ) → inside ≡ keeps_open rule row → result ≡ keeps_open rule (row ++ byte ∷ []) }
+{
+    match rule {
+        CutRule::Plain => false,
+        CutRule::Tab => byte == BACKSLASH && !inside,
+        CutRule::Csv => if byte == DOUBLE_QUOTE {
+            !inside
+        } else {
+            inside
+        },
+    }
+}
+
+#[inline(always)]
+fn row_end(rule: CutRule, before: bool, piece: &[u8]) -> Found
+    ensures within { IsWithin piece.now result }
+    ensures finds { (row : List ℕ) → IsOpen rule row → before ≡ keeps_open rule row → Finds rule row piece.now result }
+{
+    let mut inside = before;
+    for (place, b) in piece.iter().enumerate() {
+        if *b == LINE_FEED && !inside {
+            return Found::Row(place);
+        }
+        inside = inside_after(rule, inside, *b);
+    }
+    Found::Inside(inside)
+}
+
+/// The rows of a text that comes in these pieces, without their line feeds, up to its last row end.
+pub fn rows_of_pieces(
+    alloc: Global,
+    rule: CutRule,
+    pieces: &[Bytes],
+) -> Result<ListOf<Bytes>, NoMemory>
+    ensures rows { IfOk result (AreRows rule (text_of pieces.now)) }
+    // No other rows are the text's, so it doesn't matter how it was cut into pieces.
+    ensures only { IfOk result (λ rows. (others : List (List ℕ)) → AreRows rule (text_of pieces.now) others → rows ≡ others) }
+{
+    let mut rows = ListOf::new(alloc);
+    let mut row = Bytes::new(alloc);
+    let mut cutter = Cutter::new(rule);
+    for piece in pieces {
+        cut_piece(alloc, &mut cutter, piece.as_slice(), &mut row, &mut rows)?;
+    }
+    Ok(rows)
+}
+
+/// Adds the rows that end in a piece, and keeps what follows them.
+fn cut_piece(
+    alloc: Global,
+    cutter: &mut Cutter,
+    piece: &[u8],
+    row: &mut Bytes,
+    rows: &mut ListOf<Bytes>,
+) -> Result<(), NoMemory>
+    ensures { OnOk result ((rule : CutRule) → Holds rule cutter.old row.old → Holds rule cutter.new row.new
+        × ((more : List (List ℕ)) × (rows.new ≡ rows.old ++ more) × AllByRecursion (IsWhole rule) more
+        × (row.old ++ piece.now ≡ flat_map ended more ++ row.new))) }
+{
+    let mut left = piece;
+    while let Cut::Row(count) = cutter.feed(left) {
+        row.extend(&left[..count - 1])?;
+        let whole = Bytes::copy_of(alloc, row.as_slice())?;
+        row.clear();
+        rows.push(whole)?;
+        left = &left[count..];
+    }
+    row.extend(left)
+}

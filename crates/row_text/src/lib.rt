@@ -1,0 +1,20 @@
+//! Row texts: TabSeparated and CSV rows, read, written and cut out of a text in any pieces.
+//!
+//! It promises that a row is read as its fields exactly where it has them, and else as its first
+//! fault; that a written row is read again; and that the rows which a [`Cutter`] cuts are those of
+//! the whole text before its last row end, in whatever pieces the text comes. Only want of memory
+//! may stand in place of an answer, and a [`Cutter`] takes none.
+#![tactic(auto)]
+
+pub mod csv_row;
+pub mod cutter;
+pub mod laws;
+pub mod tab_row;
+
+pub use csv_row::{is_blank, read_csv_row, write_csv_row};
+pub use cutter::{Cut, CutRule, Cutter, rows_of_pieces};
+pub use laws::{one_list_of_lines, one_table, written_tables};
+pub use tab_row::{read_fields, write_row};
+
+#[cfg(test)]
+mod tests;

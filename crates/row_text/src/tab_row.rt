@@ -1,0 +1,242 @@
+// Rows of TabSeparated text.
+ghost use Rattle.std.specs.Prelude.{◌≡◌, ◌≢◌, ◌≤◌, ◌<◌, ◌+◌, ◌⊎◌, ◌∷◌, ◌++◌, [], ℕ, List, Result, length, map, take, slice_index, IfSome, OnErr, OnOk};
+ghost use Rattle.std.specs.List.{AllByRecursion, flat_map};
+ghost use Rattle.dict_value.specs.declared.value.Field.{Field};
+ghost use Rattle.dict_value.specs.declared.fault.LineFault.{LineFault};
+ghost use Rattle.row_text.specs.Cutting.{IsWhole, ended};
+ghost use Rattle.row_text.specs.Letters.{backslash, tab};
+ghost use Rattle.row_text.specs.Marks.{Mark, Spells, meant, unescaped as unescaped_of, hex_digit as hex_digit_of};
+ghost use Rattle.row_text.specs.TabRow.{Answers, GivenMemory, IsRow, field_of, field_text, row_line, written_byte, written_letter};
+ghost use Rattle.row_text.specs.TabSteps.{EscapeOf, IsPlain, ReadsField};
+ghost use Rattle.row_text.specs.declared.cutter.CutRule.TheVariants as rule;
+
+use dict_value::{Bytes, Field, Fields, LineFault, ListOf, NoMemory};
+use std::alloc::Global;
+
+const BACKSLASH: u8 = b'\\';
+
+const CARRIAGE_RETURN: u8 = b'\r';
+
+const TAB: u8 = b'\t';
+
+/// The fields of one row, which comes without its line feed.
+pub fn read_fields(alloc: Global, line: &[u8]) -> Result<Fields, LineFault>
+    requires { length line.now ≤ 4294967295 }
+    // The fields where the line is a row, and else its first fault.
+    ensures exact { GivenMemory result (Answers line.now result) }
+    // There is no other answer to it.
+    ensures only { (answer : Result (List Field) LineFault) → Answers line.now answer
+        → GivenMemory result (result ≡ answer) }
+{
+    read_line(alloc, line)
+}
+
+fn read_line(alloc: Global, line: &[u8]) -> Result<Fields, LineFault>
+    requires { length line.now ≤ 4294967295 }
+    ensures { GivenMemory result (Answers line.now result) }
+{
+    let mut fields = ListOf::new(alloc);
+    let mut at = 0;
+    'fields: loop {
+        let (field, size) = match read_field(alloc, &line[at..], at) {
+            Ok(found) => found,
+            Err(fault) => return Err(fault),
+        };
+        let stop = at + size;
+        if fields.push(field).is_err() {
+            return Err(LineFault::NoMemory);
+        }
+        if stop == line.len() {
+            return Ok(fields);
+        }
+        at = stop + 1;
+    }
+}
+
+/// The first field of a text and its size; the text stands at this place of its line.
+fn read_field(alloc: Global, rest: &[u8], start: usize) -> Result<(Field, usize), LineFault>
+    requires { start + length rest.now ≤ 4294967295 }
+    ensures { ReadsField rest.now start result }
+{
+    let mut text = Bytes::new(alloc);
+    let mut at = 0;
+    'runs: loop {
+        let left = &rest[at..];
+        let run = run_len(left);
+        let stop = at + run;
+        if text.extend(&left[..run]).is_err() {
+            return Err(LineFault::NoMemory);
+        }
+        if stop == rest.len() {
+            if run > 0 && left[run - 1] == CARRIAGE_RETURN {
+                return Err(LineFault::CarriageReturn);
+            }
+            return Ok((field_from(rest, text), stop));
+        }
+        if left[run] == TAB {
+            return Ok((field_from(&rest[..stop], text), stop));
+        }
+        let Some((byte, size)) = escape_of(&left[run..]) else {
+            return Err(LineFault::BadEscape((start + stop) as u32));
+        };
+        if text.push(byte).is_err() {
+            return Err(LineFault::NoMemory);
+        }
+        at = stop + size;
+    }
+}
+
+/// How many bytes stand before the first tab or backslash.
+fn run_len(rest: &[u8]) -> usize
+    ensures within { result ≤ length rest.now }
+    ensures plain { AllByRecursion IsPlain (take result rest.now) }
+    ensures stops { result < length rest.now
+        → (slice_index rest.now result ≡ tab) ⊎ (slice_index rest.now result ≡ backslash) }
+{
+    for (place, b) in rest.iter().enumerate() {
+        if *b == TAB || *b == BACKSLASH {
+            return place;
+        }
+    }
+    rest.len()
+}
+
+/// The field of these bytes, given the text that they stand for.
+fn field_from(raw: &[u8], text: Bytes) -> Field
+    ensures { (marks : List Mark) → Spells raw.now marks → text ≡ map meant marks → result ≡ field_of marks }
+{
+    if raw.len() == 2 && raw[0] == BACKSLASH && raw[1] == b'N' {
+        Field::Null
+    } else {
+        Field::Text(text)
+    }
+}
+
+/// The byte that an escape stands for, and the escape's size.
+fn escape_of(rest: &[u8]) -> Option<(u8, usize)>
+    requires first { slice_index rest.now 0 ≡ backslash }
+    requires some { 0 < length rest.now }
+    ensures size { IfSome result (λ escape. (0 < escape.1) × (escape.1 ≤ length rest.now)) }
+    ensures escape { EscapeOf rest.now result }
+{
+    if rest.len() < 2 {
+        return None;
+    }
+    if rest[1] != b'x' {
+        return Some((unescaped(rest[1]), 2));
+    }
+    if rest.len() < 4 {
+        return None;
+    }
+    match (hex_digit(rest[2]), hex_digit(rest[3])) {
+        (Some(high), Some(low)) => Some((16 * high + low, 4)),
+        _ => None,
+    }
+}
+
+/// The value of a hexadecimal digit.
+#[tactic(auto, unfolding(crate::specs::Marks::hex_digit))]
+fn hex_digit(b: u8) -> Option<u8>
+    ensures value { result ≡ hex_digit_of b }
+    ensures small { IfSome result (λ v. v < 16) }
+{
+    match b {
+        b'0'..=b'9' => Some(b - b'0'),
+        b'A'..=b'F' => Some(b - b'A' + 10),
+        b'a'..=b'f' => Some(b - b'a' + 10),
+        _ => None,
+    }
+}
+
+/// The byte that a backslash and this byte stand for.
+#[tactic(auto, unfolding(crate::specs::Marks::unescaped))]
+fn unescaped(b: u8) -> u8
+    ensures { result ≡ unescaped_of b }
+{
+    match b {
+        b'b' => 8,
+        b'f' => 12,
+        b'r' => b'\r',
+        b'n' => b'\n',
+        b't' => b'\t',
+        b'0' => 0,
+        b'a' => 7,
+        b'v' => 11,
+        _ => b,
+    }
+}
+
+/// Appends the row of the fields with its line feed.
+pub fn write_row(fields: &[Field], out: &mut Bytes) -> Result<(), NoMemory>
+    requires { fields.now ≢ [] }
+    ensures ok { OnOk result (out.new ≡ out.old ++ ended (row_line fields.now)) }
+    ensures err { OnErr result (out.new ≡ out.old) }
+    // What is written is one whole row, which is read as these fields again.
+    ensures whole { IsWhole rule.Tab (row_line fields.now) }
+    ensures again { IsRow (row_line fields.now) fields.now }
+{
+    let before = out.len();
+    match append_row(fields, out) {
+        Ok(()) => Ok(()),
+        Err(NoMemory) => {
+            out.truncate(before);
+            Err(NoMemory)
+        }
+    }
+}
+
+/// Appends the row; after `NoMemory` a front of it may stand behind what was there.
+fn append_row(fields: &[Field], out: &mut Bytes) -> Result<(), NoMemory>
+    requires { fields.now ≢ [] }
+    ensures ok { OnOk result (out.new ≡ out.old ++ ended (row_line fields.now)) }
+    ensures err { OnErr result (take (length out.old) out.new ≡ out.old) }
+{
+    for (place, field) in fields.iter().enumerate() {
+        if place > 0 {
+            out.push(TAB)?;
+        }
+        append_field(field, out)?;
+    }
+    out.push(b'\n')
+}
+
+fn append_field(field: &Field, out: &mut Bytes) -> Result<(), NoMemory>
+    ensures ok { OnOk result (out.new ≡ out.old ++ field_text field.now) }
+    ensures err { OnErr result (take (length out.old) out.new ≡ out.old) }
+{
+    match field {
+        Field::Null => out.extend(b"\\N"),
+        Field::Text(text) => append_escaped(text.as_slice(), out),
+    }
+}
+
+fn append_escaped(text: &[u8], out: &mut Bytes) -> Result<(), NoMemory>
+    ensures ok { OnOk result (out.new ≡ out.old ++ flat_map written_byte text.now) }
+    ensures err { OnErr result (take (length out.old) out.new ≡ out.old) }
+{
+    for b in text {
+        match escape_letter(*b) {
+            Some(letter) => out.extend(&[BACKSLASH, letter])?,
+            None => out.push(*b)?,
+        }
+    }
+    Ok(())
+}
+
+/// The letter behind the backslash that a byte is written with, if it is.
+#[tactic(auto, unfolding(crate::specs::TabRow::written_letter))]
+fn escape_letter(b: u8) -> Option<u8>
+    ensures { result ≡ written_letter b }
+{
+    match b {
+        8 => Some(b'b'),
+        12 => Some(b'f'),
+        b'\r' => Some(b'r'),
+        b'\n' => Some(b'n'),
+        b'\t' => Some(b't'),
+        0 => Some(b'0'),
+        b'\'' => Some(b'\''),
+        BACKSLASH => Some(BACKSLASH),
+        _ => None,
+    }
+}
