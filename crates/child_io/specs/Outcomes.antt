@@ -121,6 +121,24 @@ EndFails EndWaitFailed = ⊤
 EndFails (EndEnded exit) = ⊥
 EndFails EndNoMemory = ⊥
 
+-- a child was read
+abbrev pub WasRead : Outcome → Type 0
+WasRead NotStarted = ⊥
+WasRead WriteFailed = ⊥
+WasRead (Cut bytes timed_out) = ⊤
+WasRead TooLong = ⊤
+WasRead (WaitFailed bytes) = ⊤
+WasRead (Ended bytes exit) = ⊤
+WasRead NoMemory = ⊥
+
+abbrev pub EndWasRead : PieceEnd → Type 0
+EndWasRead EndNotStarted = ⊥
+EndWasRead (EndCut timed_out) = ⊤
+EndWasRead EndTooLong = ⊤
+EndWasRead EndWaitFailed = ⊤
+EndWasRead (EndEnded exit) = ⊤
+EndWasRead EndNoMemory = ⊥
+
 -- some child's count of faults rose
 abbrev pub RoseOnce : {C : Type 0} → (C → ℕ) → Type 0
 RoseOnce {C} faults = (before : C) × (after : C) × Rose (faults before) (faults after)

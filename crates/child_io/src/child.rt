@@ -80,6 +80,9 @@ pub trait Child: Drop {
     /// A child of this type failed in this way.
     ghost broke: { How → Type 0 };
 
+    /// A child of this type was read with this limit in milliseconds.
+    ghost asked: { ℕ → Type 0 } = { λ limit_ms. Unit {0} };
+
     fn write(&mut self, piece: &[u8]) -> Put
         requires { 0 < length piece.now }
         ensures bound { PutWithin result piece.now }
@@ -100,6 +103,7 @@ pub trait Child: Drop {
         ensures cause { HasCause (faults self.old) (faults self.new) (HeardFails result) }
         ensures broke_read { result ≡ Heard.Failed → broke How.Read }
         ensures broke_timed_out { result ≡ Heard.TimedOut → broke How.TimedOut }
+        ensures asked { asked limit_ms }
         ensures closed { closed self.new ≡ closed self.old };
 
     fn wait(&mut self) -> Result<Exit, Failed>

@@ -11,6 +11,8 @@ pub mod memory;
 pub mod pieces;
 pub mod run;
 pub mod system;
+#[cfg(test)]
+mod tests;
 pub mod words;
 
 pub use child::{Child, Heard, How, Outcome, Script, Spawner, StartFault};

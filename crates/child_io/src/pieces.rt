@@ -8,13 +8,20 @@ use std::alloc::Global;
 
 /// Who is handed the bytes of each read, in order.
 pub trait Pieces {
+    /// The type of what a piece leaves as it is.
+    ghost Kept: { Type 0 };
+
+    /// What a piece leaves as it is.
+    ghost kept: { Self → Kept };
+
     /// It was handed these pieces.
     ghost took: { Self → List (List ℕ) → Type 0 };
 
     /// All pieces together have at most 4,294,967,295 bytes.
     fn take(&mut self, piece: &[u8])
         requires { HasRoomFor (took self.old) piece.now }
-        ensures { (pieces : List (List ℕ)) → took self.old pieces → took self.new (pieces ++ piece.now ∷ []) };
+        ensures took { (pieces : List (List ℕ)) → took self.old pieces → took self.new (pieces ++ piece.now ∷ []) }
+        ensures kept { kept self.new ≡ kept self.old };
 }
 
 /// How a child ended whose pieces were handed on.
@@ -71,6 +78,10 @@ impl Gathered {
 
 impl Pieces for Gathered {
     ghost use Rattle.child_io.specs.Gathers.{Gathers};
+
+    ghost Kept = { Unit {0} };
+
+    ghost kept = { λ _. tt };
 
     ghost took = { Gathers };
 

@@ -2,7 +2,7 @@
 ghost use Rattle.std.specs.Prelude.{◌≡◌, ◌≢◌, ◌<◌, ◌≤◌, ℕ, List, [], length, IsErr, IsTrue};
 ghost use Rattle.dict_io.specs.Outside.{HasCause};
 ghost use Rattle.child_io.specs.declared.child.How.{How};
-ghost use Rattle.child_io.specs.Outcomes.{FeedTold, HeardPieces, RunTold, ChildRun, RunInPieces, BrokeAs, EndBroke, ChildFails, EndFails, RoseOnce, RanToEnd};
+ghost use Rattle.child_io.specs.Outcomes.{FeedTold, HeardPieces, RunTold, ChildRun, RunInPieces, BrokeAs, EndBroke, ChildFails, EndFails, RoseOnce, RanToEnd, WasRead, EndWasRead};
 
 use crate::child::{Child, Heard, Outcome, Spawner, StartFault};
 use crate::pieces::{Gathered, PieceEnd, Pieces};
@@ -31,9 +31,11 @@ fn hear<C: Child, P: Pieces>(child: &mut C, limit: u32, read_ms: u32, out: &mut 
     requires closed { IsTrue (C.closed child.old) }
     requires unheard { P.took out.old [] }
     ensures heard { HeardPieces (P.took out.new) (C.told child.old) limit result }
+    ensures kept { P.kept out.new ≡ P.kept out.old }
     ensures broke { EndBroke C.broke result }
     ensures started { result ≢ PieceEnd.NotStarted }
     ensures had_memory { result ≢ PieceEnd.NoMemory }
+    ensures asked { C.asked read_ms }
     ensures cause { HasCause (C.faults child.old) (C.faults child.new) (EndFails result) }
 {
     let limit = limit as usize;
@@ -71,9 +73,11 @@ pub fn run_pieces<S: Spawner, P: Pieces>(
 ) -> PieceEnd
     requires { P.took out.old [] }
     ensures pieces { RunInPieces (P.took out.new) (S.scripts spawner.old) (S.scripts spawner.new) S.C.told S.ran words.now limit result }
+    ensures kept { P.kept out.new ≡ P.kept out.old }
     ensures cause { HasCause (S.start_faults spawner.old) (S.start_faults spawner.new) (result ≡ PieceEnd.NotStarted) }
     ensures broke { EndBroke S.C.broke result }
     ensures child_rose { EndFails result → RoseOnce S.C.faults }
+    ensures asked { EndWasRead result → S.C.asked read_ms }
     ensures not_started { result ≡ PieceEnd.NotStarted → out.new ≡ out.old }
     ensures no_memory { result ≡ PieceEnd.NoMemory → out.new ≡ out.old }
 {
@@ -101,6 +105,7 @@ pub fn run_whole<S: Spawner>(
     ensures cause { HasCause (S.start_faults spawner.old) (S.start_faults spawner.new) (result ≡ Outcome.NotStarted) }
     ensures broke { BrokeAs S.C.broke result }
     ensures child_rose { ChildFails result → RoseOnce S.C.faults }
+    ensures asked { WasRead result → S.C.asked read_ms }
     ensures ran { RanToEnd S.ran words.now result }
 {
     let mut child = match spawner.start(words) {

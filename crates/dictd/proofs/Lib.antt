@@ -1,3 +1,4 @@
+pub mod CommandWords
 pub mod Doubling
 pub mod Fields
 pub mod FileTexts

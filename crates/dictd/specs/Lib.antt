@@ -1,3 +1,7 @@
 pub mod CommandLine
-pub mod Lookups
+pub mod Inputs
+pub mod Loads
+pub mod OneRun
+pub mod Requests
+pub mod Sessions
 pub mod ThinText

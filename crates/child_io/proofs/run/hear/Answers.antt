@@ -14,9 +14,10 @@ loop-count-preserved g c =
     record {
       later = omega (arith, c.read.ensures.cause.later, c.loop-count.invariant.later);
       closed = c.read.ensures.closed ∙ c.loop-count.invariant.closed;
+      kept = c.take.ensures.kept ∙ c.loop-count.invariant.kept;
       room = room;
       within = omega (arith, c.loop-count.invariant.within);
-      handed = handed-next _ _ _ _ _ _ _ _ _ (omega (arith, c.ranges.limit.fits)) room c.in-Bytes.ensures.bound.0 c.in-Bytes.ensures.bound.1 c.loop-count.invariant.within (omega arith) c.loop-count.invariant.handed c.in-Bytes.ensures.told c.take.ensures;
+      handed = handed-next _ _ _ _ _ _ _ _ _ (omega (arith, c.ranges.limit.fits)) room c.in-Bytes.ensures.bound.0 c.in-Bytes.ensures.bound.1 c.loop-count.invariant.within (omega arith) c.loop-count.invariant.handed c.in-Bytes.ensures.told c.take.ensures.took;
     }
 
 pub returns-in-Ok-clause-heard : goal.returns-in-Ok-clause-heard

@@ -6,6 +6,7 @@ abbrev pub invariant-loop-count : goal.invariant-loop-count
 invariant-loop-count g l = record {
   later : g.C.Child.faults l.initial.child ≤ g.C.Child.faults l.child;
   closed : g.C.Child.closed l.child ≡ true;
+  kept : g.P.Pieces.kept l.out ≡ g.P.Pieces.kept l.initial.out;
   room : length l.buf ≡ 65536;
   within : l.total ≤ l.limit;
   handed : HandedOn (g.P.Pieces.took l.out) (g.C.Child.told l.initial.child) (g.C.Child.told l.child) l.limit l.total;

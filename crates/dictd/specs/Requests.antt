@@ -1,10 +1,12 @@
 -- Requests, one line each, and their replies.
-use Rattle.std.specs.Prelude.{◌≡◌, ℕ, List, [], ◌∷◌, ◌++◌, ◌⊎◌, ◌==◌, codes, find, Option, None, Some}
+use Rattle.std.specs.Prelude.{◌≡◌, ℕ, List, [], ◌∷◌, ◌++◌, ◌⊎◌, ◌==◌, codes, decimal, length, find}
 use Rattle.std.specs.Option.{option_map_or}
 use Rattle.std.specs.Str.Parse.{digits_value}
 use Rattle.dict_value.specs.Digits.{IsDigits}
 use Rattle.dict_value.specs.Split.{Lacks}
 use Rattle.load_core.specs.declared.strict.TextRow.{TextRow}
+use Rattle.dictd.specs.declared.ending.LoadEnd.{LoadEnd}
+use Rattle.dictd.specs.declared.ending.LoadEnd.TheVariants.{Published, Failed, NoMemory}
 use Rattle.dictd.specs.declared.thin.ThinDefinition.{ThinDefinition}
 
 -- the text is these lines, each with its line feed
@@ -26,6 +28,10 @@ pub record AsksFor (d : ThinDefinition) (line : List ℕ) (key : ℕ) : Type 0 w
   pub value : key ≡ digits_value 10 digits
   pub spelled : line ≡ codes "dictGet" ++ 9 ∷ (d.name ++ 9 ∷ (d.attribute ++ 9 ∷ digits))
 
+-- the line asks for a load
+abbrev pub AsksToLoad : ThinDefinition → List ℕ → Type 0
+AsksToLoad d line = line ≡ codes "reload" ++ 9 ∷ d.name
+
 -- the text of the first row with the key, or nothing
 abbrev pub text_at : List TextRow → ℕ → List ℕ
 text_at rows key = option_map_or (λ (row : TextRow). row.text) (find (λ (row : TextRow). row.key == key) rows) []
@@ -34,19 +40,19 @@ text_at rows key = option_map_or (λ (row : TextRow). row.text) (find (λ (row :
 abbrev pub refusal : List ℕ → List ℕ
 refusal number = codes "ERR" ++ 9 ∷ (number ++ 10 ∷ [])
 
--- the reply to a lookup of a key in what is loaded
-abbrev pub value_reply : Option (List TextRow) → ℕ → List ℕ
-value_reply None key = refusal (codes "5")
-value_reply (Some rows) key = codes "OK" ++ 9 ∷ (codes "v1" ++ 9 ∷ (text_at rows key ++ 10 ∷ []))
+-- a version by its number, as a reply names it
+abbrev pub version_name : ℕ → List ℕ
+version_name number = codes "v" ++ decimal number
 
--- the reply to a line: the value that it asks for, or error 1; error 99 may stand in its place
-abbrev pub IsReply : ThinDefinition → Option (List TextRow) → List ℕ → List ℕ → Type 0
-IsReply d loaded line reply =
-    ((key : ℕ) × AsksFor d line key × (reply ≡ value_reply loaded key))
-    ⊎ (((key : ℕ) → AsksFor d line key → ⊥) × (reply ≡ refusal (codes "1")))
-    ⊎ (reply ≡ refusal (codes "99"))
+-- the value of a key in the last version of the list, or error 5 where there is none
+pub data IsValue (versions : List (List TextRow)) (key : ℕ) (reply : List ℕ) : Type 0 where
+  NotLoaded : versions ≡ [] → reply ≡ refusal (codes "5") → IsValue versions key reply
+  Loaded : (before : List (List TextRow)) (rows : List TextRow) → versions ≡ before ++ rows ∷ []
+      → reply ≡ codes "OK" ++ 9 ∷ (version_name (length versions) ++ 9 ∷ (text_at rows key ++ 10 ∷ []))
+      → IsValue versions key reply
 
--- one reply for each line, in order
-abbrev pub IsReplies : ThinDefinition → Option (List TextRow) → List (List ℕ) → List ℕ → Type 0
-IsReplies d loaded [] replies = replies ≡ []
-IsReplies d loaded (line ∷ lines) replies = (reply : List ℕ) × (rest : List ℕ) × IsReply d loaded line reply × IsReplies d loaded lines rest × (replies ≡ reply ++ rest)
+-- the reply to a load
+abbrev pub load_reply : LoadEnd → List ℕ
+load_reply (Published number) = codes "OK" ++ 9 ∷ (version_name number ++ 10 ∷ [])
+load_reply (Failed cause) = refusal (codes "7")
+load_reply NoMemory = refusal (codes "99")
