@@ -1,7 +1,7 @@
 -- Views that begin with one another, entries by their numbers, and views whose entries have a fact.
-use Rattle.std.proofs.Common.{◌≡◌, ℕ, zero, suc, ◌≤◌, ◌<◌, ◌+◌, List, [], ◌∷◌, ◌++◌, length, take, slice_get, refl, sym, ap, subst, ◌∙◌, ◌⊎◌, inl, inr, ⊎_elim, arith, Option, Some, None, append_assoc, length-append}
+use Rattle.std.proofs.Common.{◌≡◌, ℕ, zero, suc, ◌≤◌, ◌<◌, List, [], ◌∷◌, ◌++◌, length, take, refl, sym, ap, subst, ◌∙◌, ◌⊎◌, inl, inr, ⊎_elim, arith, Some, append_assoc, length-append}
 use Rattle.std.proofs.lemmas.List.{append-nil}
-use Rattle.version_slot.specs.Views.{BeginsWith, entry, EachHasFact, KeepsTokens, HasEntries, first_entries}
+use Rattle.version_slot.specs.Views.{Entered, BeginsWith, entry, IsNewestOf, EachHasFact, KeepsTokens, HasEntries, first_entries}
 
 module _ {E : Type 0} where
   pub begins-self : (xs : List E) → BeginsWith xs xs
@@ -59,6 +59,18 @@ module _ {E : Type 0} where
   entry-append (x ∷ []) e = refl
   entry-append (x ∷ y ∷ ys) e = entry-append (y ∷ ys) e
 
+  -- each number from 1 to the length has an entry
+  pub entry-within : (xs : List E) (n : ℕ) → n < length xs → (e : E) × (entry xs (suc n) ≡ Some e)
+  entry-within [] n lt = absurd (omega arith)
+  entry-within (x ∷ xs) zero lt = (x, refl)
+  entry-within (x ∷ xs) (suc n) lt = entry-within xs n (omega arith)
+
+  -- the newest entry stands last
+  pub entry-last : (xs : List E) (e : E) → entry xs (length xs) ≡ Some e → (before : List E) × (xs ≡ before ++ e ∷ [])
+  entry-last [] e at = absurd (cc at)
+  entry-last (x ∷ []) e at = ([], cc at)
+  entry-last (x ∷ y ∷ ys) e at = let rest = entry-last (y ∷ ys) e at in (x ∷ rest.0, ap (λ (z : List E). x ∷ z) rest.1)
+
   -- the entry of a number stands after as many entries as are before that number
   pub entry-after : (xs : List E) (n : ℕ) (e : E) → entry xs (suc n) ≡ Some e → (after : List E) × (xs ≡ take n xs ++ e ∷ after)
   entry-after [] n e at = absurd (cc at)
@@ -100,3 +112,7 @@ module _ {E : Type 0} where
     -- the entry of a number has the fact over the entries of lesser numbers
     pub fact-entry : (xs : List E) (n : ℕ) (e : E) → EachHasFact allows xs → entry xs (suc n) ≡ Some e → allows (take n xs) e
     fact-entry xs n e has at = let split = entry-after xs n e at in has (take n xs) split.0 e split.1
+
+    -- what is seen stands last in the view, and has the fact over the entries before it
+    pub fact-newest : (view : List E) (seen : Entered E) (e : E) → EachHasFact allows view → IsNewestOf view seen → seen.version ≡ Some e → (before : List E) × (view ≡ before ++ e ∷ []) × allows before e
+    fact-newest view seen e has newest is = let last = entry-last view e (sym newest.version ∙ is) in (last.0, last.1, has last.0 [] e last.1)

@@ -10,6 +10,8 @@ pub mod fact;
 mod held;
 pub mod plain;
 pub mod seen;
+#[cfg(test)]
+mod tests;
 
 pub use ends::{LAST_NUMBER, Publisher, Token, Viewer};
 pub use fact::Fact;
