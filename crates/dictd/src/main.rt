@@ -12,6 +12,8 @@ mod load;
 mod once;
 mod reply;
 mod session;
+#[cfg(test)]
+mod tests;
 mod thin;
 mod words;
 
