@@ -309,3 +309,30 @@ fn long_texts_have_their_own_status(rt: HostRuntime) -> Result<(), Fail> {
     assert!(rt; err.written().as_slice() == b"line too long\n".as_slice());
     Ok(())
 }
+
+#[test]
+fn a_long_definitions_file_is_refused(rt: HostRuntime) -> Result<(), Fail> {
+    let alloc = rt.alloc();
+    let long = Vec::from_elem(alloc, b' ', 4194305)?;
+    let mut shelf_of_spaces = shelf(alloc, long.as_slice())?;
+    let mut children = spawner(alloc, FIRST.children)?;
+    let mut clock = MemoryClock::new(ListOf::from_vec(Vec::from_array(alloc, [100u64])?));
+    let mut input = MemorySource::new(Bytes::new(alloc), ListOf::new(alloc), ListOf::new(alloc));
+    let mut out = MemorySink::new(alloc, 100, ListOf::new(alloc))?;
+    let mut err = MemorySink::new(alloc, 100, ListOf::new(alloc))?;
+    let words = strings(alloc, FIRST.words)?;
+    let status = once(
+        alloc,
+        words.as_slice(),
+        &mut shelf_of_spaces,
+        &mut children,
+        &mut clock,
+        &mut input,
+        &mut out,
+        &mut err,
+    );
+    assert_eq!(rt; status, Status::DefsTooLong);
+    assert!(rt; out.written().is_empty());
+    assert!(rt; err.written().as_slice() == b"definitions too long\n".as_slice());
+    Ok(())
+}
