@@ -6,10 +6,9 @@
 mod table;
 
 use dict_value::{Fields, ListOf};
-use std::env;
-use std::io;
 use std::io::Read;
 use std::time::Instant;
+use std::{env, io};
 
 fn main(rt: HostRuntime) -> io::Result<()> {
     let mut words = env::args(&rt)?;
@@ -25,7 +24,12 @@ fn main(rt: HostRuntime) -> io::Result<()> {
     let mut text = Vec::new(rt.alloc());
     rt.stdin().read_to_end(&mut text)?;
     let table = table::read(rt.alloc(), is_csv, text.as_slice());
-    println!(rt; "rows {} fields {} bytes {}", table.len(), table::fields(&table), table::bytes(&table))?;
+    println!(rt;
+        "rows {} fields {} bytes {}",
+        table.len(),
+        table::fields(&table),
+        table::bytes(&table)
+    )?;
     let mut best = u128::MAX;
     for _ in 0..rounds {
         let start = Instant::now(&rt)?;

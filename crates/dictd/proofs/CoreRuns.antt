@@ -1,15 +1,12 @@
 -- A core stepped by the events of a load.
-use Rattle.std.proofs.Common.{◌≡◌, ◌<◌, ◌≤◌, ◌+◌, ℕ, List, [], ◌∷◌, ◌++◌, length, map, refl, ap, sym, ◌∙◌, subst, arith, Option, Result, Ok, Err, ◌⊎◌, inl, inr, Bool, true, false, nat_lt}
+use Rattle.std.proofs.Common.{◌≡◌, ◌<◌, ◌+◌, ℕ, List, [], ◌∷◌, ◌++◌, length, map, refl, ap, sym, ◌∙◌, subst, arith, Result, Ok, Err, Bool, true, false, nat_lt}
 use Rattle.std.specs.List.{concat}
-use Rattle.dict_value.specs.declared.fault.Cause.{Cause}
 use Rattle.dict_value.specs.declared.fault.Exit.{Exit}
-use Rattle.child_io.specs.declared.child.Script.{Script}
 use Rattle.child_io.specs.declared.pieces.PieceEnd.{PieceEnd}
 use Rattle.load_core.specs.declared.dictionary.DictCore.{DictCore}
 use Rattle.load_core.specs.declared.dictionary.DictEvent.{DictEvent}
-use Rattle.load_core.specs.declared.dictionary.DictEvent.TheVariants.{Start, Piece, Finish, Publish, Post}
-use Rattle.load_core.specs.declared.dictionary.Phase.{Phase}
-use Rattle.load_core.specs.declared.dictionary.Phase.TheVariants.{Idle, Reading, Ready, ToPost}
+use Rattle.load_core.specs.declared.dictionary.DictEvent.TheVariants.{Start, Piece}
+use Rattle.load_core.specs.declared.dictionary.Phase.TheVariants.{Idle, Reading}
 use Rattle.load_core.specs.declared.dictionary.DictEffect.TheVariants as effect
 use Rattle.load_core.specs.DictSteps.{stepped, row, refused, Stepped}
 use Rattle.std.proofs.lemmas.Bool.Decides.{nat_tests}
@@ -20,8 +17,8 @@ use Rattle.load_core.specs.declared.strict.TableFault.TheVariants.{Refused, NoMe
 use Rattle.load_core.specs.declared.strict.TextRow.{TextRow}
 use Rattle.dictd.specs.declared.ending.LoadEnd.{LoadEnd}
 use Rattle.dictd.specs.declared.ending.LoadEnd.TheVariants.{Published, Failed, NoMemory as EndNoMemory}
-use Rattle.dictd.specs.Loads.{core_after, end_events, load_events, EndsLoad, State, Runs}
-use Rattle.dictd.specs.Judged.{ReadsChild, IsRead, PublishesAs, FinishesAs}
+use Rattle.dictd.specs.Loads.{core_after, end_events, EndsLoad, State, Runs}
+use Rattle.dictd.specs.Judged.{ReadsChild, IsRead, FinishesAs}
 
 pub core_after-append : (core : DictCore) (first second : List DictEvent) → core_after core (first ++ second) ≡ core_after (core_after core first) second
 core_after-append core [] second = refl

@@ -1,5 +1,5 @@
 -- What was read of a definitions file.
-use Rattle.std.proofs.Common.{◌≡◌, ◌≤◌, ℕ, List, Option, None, Some, Result, Ok, Err, IfSome, length, ap, sym, subst}
+use Rattle.std.proofs.Common.{◌≡◌, ◌≤◌, ℕ, List, Option, None, Some, Ok, length, ap, sym, subst}
 use Rattle.dict_io.specs.Outside.{ReadsFile}
 use Rattle.dictd.specs.declared.thin.ThinDefinition.{ThinDefinition}
 use Rattle.dictd.specs.declared.thin.ThinFault.{ThinFault}

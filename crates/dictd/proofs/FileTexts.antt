@@ -1,12 +1,12 @@
 -- A definition's text and its fields.
-use Rattle.std.proofs.Common.{◌≡◌, ◌≢◌, ◌<◌, ◌≤◌, ◌==◌, ℕ, List, [], ◌∷◌, ◌++◌, length, refl, ap, sym, ◌∙◌, subst, arith, ◌⊎◌, inl, inr, codes, Bool, true, false, if◌then◌else◌}
+use Rattle.std.proofs.Common.{◌≡◌, ◌≢◌, ◌==◌, ℕ, List, [], ◌∷◌, refl, sym, ◌∙◌, subst, arith, inl, inr, codes, Bool, true, false, if◌then◌else◌}
 use Rattle.std.specs.List.{AllByRecursion}
 use Rattle.dict_value.specs.Split.{Lacks}
 use Rattle.dict_value.proofs.Cuts.{AllByRecursion-append, AllByRecursion-map}
 use Rattle.dictd.specs.declared.thin.ThinDefinition.{ThinDefinition}
 use Rattle.dictd.specs.declared.thin.ThinFault.{ThinFault}
 use Rattle.dictd.specs.declared.thin.ThinFault.TheVariants.{Unsupported, NoMemory}
-use Rattle.dictd.specs.ThinText.{IsFaultAt, IsLetter, IsNameByte, IsBareName, IsCommandByte, IsCommand, doubled, source_of, HasField, IsClosed, HasFields, HasNames, IsSound, Defines, thin_text}
+use Rattle.dictd.specs.ThinText.{IsFaultAt, IsLetter, IsNameByte, IsBareName, IsCommandByte, IsCommand, doubled, source_of, HasFields, HasNames, Defines}
 use Rattle.dictd.proofs.Fields.{field-next}
 use Rattle.dictd.proofs.Doubling.{doubled-once}
 

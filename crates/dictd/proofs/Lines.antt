@@ -1,5 +1,5 @@
 -- Lines, one after another, and their replies.
-use Rattle.std.proofs.Common.{◌≡◌, ◌<◌, ◌≤◌, ℕ, List, [], ◌∷◌, ◌++◌, length, take, refl, ap, sym, ◌∙◌, subst, append_assoc, append-nil, arith, Option, None, Some, Result, Ok, Err, ◌⊎◌, inl, inr, codes, Bor}
+use Rattle.std.proofs.Common.{◌≡◌, ◌<◌, ◌≤◌, ℕ, List, [], ◌∷◌, ◌++◌, length, take, refl, ap, sym, ◌∙◌, subst, append_assoc, append-nil, arith, Option, Result, Ok, Err, ◌⊎◌, inl, inr, codes, Bor}
 use Rattle.std.proofs.lemmas.Grind.{common_steps}
 use Rattle.std.specs.Io.KnownBytes.{append_known}
 use Rattle.std.proofs.lemmas.Bool.{cases_eq}
@@ -8,11 +8,10 @@ use Rattle.dict_io.specs.Outside.{WritesPrefix}
 use Rattle.dict_io.specs.declared.outside.Failed.{Failed as WriteFailed}
 use Rattle.dict_io.proofs.Known.{append_known-twice, append_known-none}
 use Rattle.dictd.specs.declared.thin.ThinDefinition.{ThinDefinition}
-use Rattle.dictd.specs.declared.input.InputEnd.{InputEnd}
-use Rattle.dictd.specs.declared.input.InputEnd.TheVariants.{Ended, Failed, TooLong}
+use Rattle.dictd.specs.declared.input.InputEnd.TheVariants.{Ended, TooLong}
 use Rattle.dictd.specs.Loads.{State}
 use Rattle.dictd.specs.Requests.{WholeLines, LinesThen, refusal}
-use Rattle.dictd.specs.Sessions.{Answers, AnswersAll, AnswersFront, WritesReply, ServesLines, ServesInput, Serves, ServesFront}
+use Rattle.dictd.specs.Sessions.{Answers, AnswersAll, AnswersFront, WritesReply, ServesLines, ServesInput}
 
 -- one more line
 whole-push : (lines : List (List ℕ)) (line front : List ℕ) → WholeLines lines front → Lacks 10 line → WholeLines (lines ++ line ∷ []) (front ++ (line ++ 10 ∷ []))

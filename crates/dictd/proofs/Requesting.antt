@@ -4,14 +4,14 @@ use Rattle.std.specs.Str.Parse.{digits_value}
 use Rattle.dict_value.specs.Digits.{IsDigits}
 use Rattle.dict_value.specs.declared.fault.NoMemory.{NoMemory as OutOfMemory}
 use Rattle.load_core.specs.declared.strict.TextRow.{TextRow}
-use Rattle.version_slot.specs.Views.{entry, Entered, IsNewestOf}
+use Rattle.version_slot.specs.Views.{entry}
 use Rattle.dictd.specs.declared.ending.LoadEnd.{LoadEnd}
 use Rattle.dictd.specs.declared.session.Requests.{Requests}
 use Rattle.dictd.specs.declared.thin.ThinDefinition.{ThinDefinition}
 use Rattle.dictd.specs.Asked.{IsRequestsOf}
 use Rattle.dictd.specs.Loads.{State, Loads}
 use Rattle.dictd.specs.Requests.{AsksFor, AsksToLoad, IsValue, Loaded, refusal, version_name, text_at, load_reply}
-use Rattle.dictd.specs.Sessions.{Answers, Value, Load, Unread, NoMemory, Says}
+use Rattle.dictd.specs.Sessions.{Value, Load, Unread, NoMemory, Says}
 use Rattle.dictd.proofs.Fields.{behind-once}
 
 -- a lookup's line is its fixed part and its digits

@@ -1,7 +1,7 @@
 -- One run, by its status.
-use Rattle.std.proofs.Common.{◌≡◌, ◌≤◌, ℕ, List, [], Option, None, Some, Result, Ok, Err, IfSome, length, take, refl, ap, sym, ◌∙◌, subst, arith, inl, inr, IsErr}
+use Rattle.std.proofs.Common.{◌≡◌, ℕ, List, [], Option, Result, Ok, Err, length, refl, ap, sym, ◌∙◌, subst, arith, inl, inr, IsErr}
 use Rattle.std.proofs.Math.Seq.{take-length}
-use Rattle.std.specs.Io.KnownBytes.{append_known, prepend_known}
+use Rattle.std.specs.Io.KnownBytes.{append_known}
 use Rattle.dict_io.specs.Outside.{WritesPrefix}
 use Rattle.dict_io.specs.declared.outside.Failed.{Failed as WriteFailed}
 use Rattle.load_core.specs.DictSteps.{empty_core}
@@ -16,8 +16,7 @@ use Rattle.dictd.specs.CommandLine.{IsOnce}
 use Rattle.dictd.specs.Inputs.{InputIs, EndsInput, IsTextOf}
 use Rattle.dictd.specs.Loads.{State, Loads}
 use Rattle.dictd.specs.Sessions.{Serves, ServesFront, ServesInput}
-use Rattle.dictd.specs.ThinText.{Defines}
-use Rattle.dictd.specs.OneRun.{Outside, Begins, RunsTo, RunsToFront, ServesRun, ReadsDefinition, RunsFile, OnceRun, IsFile, Tells}
+use Rattle.dictd.specs.OneRun.{Outside, Begins, RunsTo, ServesRun, ReadsDefinition, RunsFile, OnceRun, Tells}
 
 -- what was served of the text that was handed on was served of what was read
 serves-asked : (d : ThinDefinition) (end : InputEnd) (asked text : List ℕ) (old new : State) (out : List ℕ) → IsTextOf end asked text → Serves d end text old out new → Serves d end asked old out new

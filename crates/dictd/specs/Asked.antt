@@ -1,5 +1,5 @@
 -- The fixed parts of a dictionary's requests.
-use Rattle.std.specs.Prelude.{◌≡◌, ℕ, List, [], ◌∷◌, ◌++◌, codes}
+use Rattle.std.specs.Prelude.{◌≡◌, [], ◌∷◌, ◌++◌, codes}
 use Rattle.dictd.specs.declared.session.Requests.{Requests}
 use Rattle.dictd.specs.declared.thin.ThinDefinition.{ThinDefinition}
 

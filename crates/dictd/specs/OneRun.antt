@@ -1,5 +1,5 @@
 -- One run of `once`: what it reads, starts and writes, and its status.
-use Rattle.std.specs.Prelude.{◌≡◌, ◌<◌, ◌≤◌, ℕ, List, [], ◌∷◌, ◌++◌, ◌⊎◌, Option, Some, None, IfSome, ⊤, Result, Ok, Err, codes, length, take}
+use Rattle.std.specs.Prelude.{◌≡◌, ◌<◌, ◌≤◌, ℕ, List, [], ◌∷◌, ◌++◌, ◌⊎◌, Option, Some, IfSome, ⊤, Result, Ok, Err, codes, length, take}
 use Rattle.std.specs.Io.KnownBytes.{prepend_known, append_known}
 use Rattle.child_io.specs.declared.child.Script.{Script}
 use Rattle.dictd.specs.declared.thin.ThinDefinition.{ThinDefinition}

@@ -1,5 +1,5 @@
 -- The one form of a definitions file that is built: a flat dictionary with one key and one text attribute.
-use Rattle.std.specs.Prelude.{◌≡◌, ◌≢◌, ◌<◌, ◌≤◌, ◌==◌, ℕ, List, [], ◌∷◌, ◌++◌, ◌⊎◌, length, codes, false, true, ⊤, if◌then◌else◌}
+use Rattle.std.specs.Prelude.{◌≡◌, ◌≢◌, ◌≤◌, ◌==◌, ℕ, List, [], ◌∷◌, ◌++◌, ◌⊎◌, length, codes, false, ⊤, if◌then◌else◌}
 use Rattle.std.specs.List.{AllByRecursion, flat_map}
 use Rattle.dict_value.specs.Split.{Lacks}
 use Rattle.dict_schema.specs.declared.definition.SourceOf.{SourceOf}

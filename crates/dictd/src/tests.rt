@@ -7,7 +7,8 @@ use std::alloc::{AllocError, Global};
 use std::process::Abort;
 use std::test::Fail;
 
-const ROW: &[u8] = b"CREATE DICTIONARY d (id UInt64, x String DEFAULT '') PRIMARY KEY id SOURCE(EXECUTABLE(command 'c' format 'TabSeparated')) LAYOUT(FLAT()) LIFETIME(0);";
+const ROW: &[u8] =
+    b"CREATE DICTIONARY d (id UInt64, x String DEFAULT '') PRIMARY KEY id SOURCE(EXECUTABLE(command 'c' format 'TabSeparated')) LAYOUT(FLAT()) LIFETIME(0);";
 
 /// How a child of a case behaves.
 #[derive(Clone, Copy)]
@@ -123,7 +124,6 @@ fn check(rt: &impl Abort, alloc: Global, case: &Case) -> Result<(), Fail> {
     Ok(())
 }
 
-
 #[test]
 fn lookups_are_answered_from_the_child(rt: HostRuntime) -> Result<(), Fail> {
     let cases = [
@@ -212,7 +212,10 @@ fn reloads_publish_or_leave_the_version(rt: HostRuntime) -> Result<(), Fail> {
             ..kept
         },
         Case {
-            children: &[(b"1\ta\n2\tb\n", Ends::With(0)), (b"1\tc\n", Ends::NotStarted)],
+            children: &[
+                (b"1\ta\n2\tb\n", Ends::With(0)),
+                (b"1\tc\n", Ends::NotStarted),
+            ],
             ..kept
         },
         Case {
@@ -247,11 +250,26 @@ fn runs_end_with_their_status(rt: HostRuntime) -> Result<(), Fail> {
         ..FIRST
     };
     let cases = [
-        Case { words: &[], ..usage },
-        Case { words: &["once", "d.sql"], ..usage },
-        Case { words: &["once", "d.sql", "x"], ..usage },
-        Case { words: &["serve", "d.sql", "1"], ..usage },
-        Case { words: &["demo", "4", "1"], ..usage },
+        Case {
+            words: &[],
+            ..usage
+        },
+        Case {
+            words: &["once", "d.sql"],
+            ..usage
+        },
+        Case {
+            words: &["once", "d.sql", "x"],
+            ..usage
+        },
+        Case {
+            words: &["serve", "d.sql", "1"],
+            ..usage
+        },
+        Case {
+            words: &["demo", "4", "1"],
+            ..usage
+        },
         Case {
             words: &["once", "e.sql", "1"],
             want: Status::DefsUnread,
@@ -259,8 +277,14 @@ fn runs_end_with_their_status(rt: HostRuntime) -> Result<(), Fail> {
             err: b"cannot read ",
             ..FIRST
         },
-        Case { file: b"", ..refused },
-        Case { file: b"CREATE DICTIONARY d (id Float64)", ..refused },
+        Case {
+            file: b"",
+            ..refused
+        },
+        Case {
+            file: b"CREATE DICTIONARY d (id Float64)",
+            ..refused
+        },
         Case {
             failing_reads: &[1],
             input: b"dictGet\td\tx\t1\ndictGet\td\tx\t2\n",
@@ -290,7 +314,11 @@ fn long_texts_have_their_own_status(rt: HostRuntime) -> Result<(), Fail> {
     let mut shelf_of_row = shelf(alloc, ROW)?;
     let mut children = spawner(alloc, FIRST.children)?;
     let mut clock = MemoryClock::new(ListOf::from_vec(Vec::from_array(alloc, [100u64])?));
-    let mut input = MemorySource::new(Bytes::from_vec(long), ListOf::new(alloc), ListOf::new(alloc));
+    let mut input = MemorySource::new(
+        Bytes::from_vec(long),
+        ListOf::new(alloc),
+        ListOf::new(alloc),
+    );
     let mut out = MemorySink::new(alloc, 100, ListOf::new(alloc))?;
     let mut err = MemorySink::new(alloc, 100, ListOf::new(alloc))?;
     let words = strings(alloc, FIRST.words)?;

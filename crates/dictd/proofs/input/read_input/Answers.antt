@@ -1,4 +1,4 @@
-use Rattle.std.proofs.Common.{◌≡◌, ◌<◌, ◌≤◌, ◌++◌, ◌∙◌, ap, take, length, arith}
+use Rattle.std.proofs.Common.{◌++◌, ◌∙◌, ap, take, arith}
 use Rattle.std.proofs.lemmas.Grind.{common_steps}
 use Rattle.std.specs.Io.KnownBytes.{prepend_known}
 use Rattle.dict_io.proofs.Known.{prepend_known-twice}

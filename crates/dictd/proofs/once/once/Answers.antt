@@ -1,4 +1,4 @@
-use Rattle.std.proofs.Common.{◌≡◌, subst, sym, List, ℕ, IsErr, refl}
+use Rattle.std.proofs.Common.{subst, List, ℕ}
 use Rattle.dict_io.specs.Outside.{Rose}
 use Rattle.dictd.specs.OneRun.{Tells}
 use Rattle.dictd.proofs.Runs.{tells}

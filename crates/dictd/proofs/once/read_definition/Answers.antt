@@ -1,4 +1,4 @@
-use Rattle.std.proofs.Common.{◌≡◌, ◌≤◌, length, subst, sym, List, ℕ}
+use Rattle.std.proofs.Common.{subst, sym, List, ℕ}
 use Rattle.dictd.specs.ThinText.{Defines}
 use Rattle.dictd.proofs.Definitions.{is-file, no-definition}
 use Rattle.dictd.proofs.once.read_definition.Goals as goal

@@ -1,4 +1,4 @@
-use Rattle.std.proofs.Common.{◌≡◌, refl}
+use Rattle.std.proofs.Common.{refl}
 use Rattle.dictd.proofs.Requesting.{says-load, says-value, says-unread}
 use Rattle.dictd.proofs.session.answer.Goals as goal
 

@@ -1,4 +1,4 @@
-use Rattle.std.proofs.Common.{◌≡◌, ◌∙◌, sym, ap, length, Some}
+use Rattle.std.proofs.Common.{◌∙◌, sym, ap, length, Some}
 use Rattle.version_slot.specs.Views.{entry}
 use Rattle.dictd.proofs.Requesting.{value-seen, on-ok}
 use Rattle.dictd.proofs.session.answer_key.Goals as goal

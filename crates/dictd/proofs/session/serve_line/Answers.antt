@@ -1,4 +1,4 @@
-use Rattle.std.proofs.Common.{◌≡◌, refl}
+use Rattle.std.proofs.Common.{refl}
 use Rattle.dictd.proofs.Lines.{wrote}
 use Rattle.dictd.proofs.session.serve_line.Goals as goal
 

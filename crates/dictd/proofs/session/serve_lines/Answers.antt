@@ -1,5 +1,5 @@
-use Rattle.std.proofs.Common.{◌≡◌, ◌≤◌, arith}
-use Rattle.dictd.proofs.Lines.{serving-start, serving-next, serving-end, serving-failed}
+use Rattle.std.proofs.Common.{arith}
+use Rattle.dictd.proofs.Lines.{serving-start, serving-next, serving-failed}
 use Rattle.dictd.proofs.session.serve_lines.Goals as goal
 
 pub loop-line-init : goal.loop-line-init

@@ -1,6 +1,6 @@
-use Rattle.std.proofs.Common.{◌≡◌, ◌<◌, arith, length}
+use Rattle.std.proofs.Common.{arith}
 use Rattle.std.proofs.lemmas.Grind.{common_steps}
-use Rattle.dictd.proofs.Lines.{whole-none, whole-last, whole-failed}
+use Rattle.dictd.proofs.Lines.{whole-last, whole-failed}
 use Rattle.dictd.proofs.session.serve_whole.Goals as goal
 
 pub returns-else-is_empty-clause-served : goal.returns-else-is_empty-clause-served

@@ -1,4 +1,4 @@
-use Rattle.std.proofs.Common.{◌≡◌, List, ℕ, codes}
+use Rattle.std.proofs.Common.{codes}
 use Rattle.dictd.proofs.Fields.{field-next}
 use Rattle.dictd.proofs.thin.cut_fields.Goals as goal
 

@@ -1,4 +1,3 @@
-use Rattle.std.proofs.Common.{◌≡◌, ◌++◌, ◌∷◌}
 use Rattle.dictd.proofs.Fields.{field-cut}
 use Rattle.dictd.proofs.thin.field_after.Goals as goal
 

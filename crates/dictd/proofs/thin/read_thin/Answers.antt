@@ -1,4 +1,4 @@
-use Rattle.std.proofs.Common.{◌≡◌, List, ℕ, subst, sym}
+use Rattle.std.proofs.Common.{subst, sym}
 use Rattle.dictd.specs.ThinText.{IsCommand}
 use Rattle.dictd.proofs.FileTexts.{no-fields, no-names, no-command, no-command_text, fields-define}
 use Rattle.dictd.proofs.thin.read_thin.Goals as goal

@@ -1,4 +1,4 @@
-use Rattle.std.proofs.Common.{◌≡◌, ◌++◌, ◌∷◌, ◌<◌, length, arith, ℕ, List}
+use Rattle.std.proofs.Common.{arith}
 use Rattle.dictd.proofs.Doubling.{doubled-lone-at}
 use Rattle.dictd.proofs.thin.undoubled.Goals as goal
 

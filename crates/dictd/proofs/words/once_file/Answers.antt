@@ -1,4 +1,4 @@
-use Rattle.std.proofs.Common.{◌≡◌, ◌<◌, ◌≤◌, ◌∷◌, [], ℕ, List, map, string_bytes, length, arith, codes, refl}
+use Rattle.std.proofs.Common.{string_bytes, arith, refl}
 use Rattle.dictd.proofs.CommandWords.{three, once-words, is-once}
 use Rattle.dictd.proofs.words.once_file.Goals as goal
 

@@ -1,4 +1,4 @@
-use Rattle.std.proofs.Common.{◌≡◌, inl, inr, ap, ◌∙◌}
+use Rattle.std.proofs.Common.{inl, ap, ◌∙◌}
 use Rattle.dictd.specs.Loads.{core_after, end_events}
 use Rattle.dictd.proofs.CoreRuns.{runs, begun}
 use Rattle.dictd.proofs.load.Dictionary.load.Goals as goal

@@ -1,4 +1,4 @@
-use Rattle.std.proofs.Common.{◌≡◌, ◌++◌, ap, sym, ◌∙◌}
+use Rattle.std.proofs.Common.{◌++◌, ap, sym, ◌∙◌}
 use Rattle.dictd.proofs.Requesting.{key-behind, key-none}
 use Rattle.dictd.proofs.session.Requests.key_of.Goals as goal
 
