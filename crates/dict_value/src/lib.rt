@@ -27,7 +27,7 @@ pub use bytes::Bytes;
 pub use counted::{Counted, Steps};
 pub use fault::{BadRow, BlockFault, CallFault, Cause, Exit, FetchFault, LineFault, NoMemory, Why};
 pub use list::ListOf;
-pub use reading::{default_of, read_value};
+pub use reading::{default_of, read_value, written_is_read};
 pub use value::{
     Address, AttrType, BadValue, ColType, Fetched, FetchedRow, Field, Fields, KeyList, MaybeRow,
     Prefix, Row, Rows, Value, same_value,
