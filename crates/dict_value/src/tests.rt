@@ -686,8 +686,8 @@ fn grown(alloc: Global) -> Option<(Bytes, ListOf<u64>)> {
 fn growths_find_memory(rt: HostRuntime) {
     match grown(rt.alloc()) {
         Some((bytes, numbers)) => {
-            assert!(rt; bytes.as_slice() == &[7, 5, 9, 0, 0]);
-            assert!(rt; numbers.as_slice() == &[3, 4]);
+            assert!(rt; bytes.as_slice() == [7, 5, 9, 0, 0].as_slice());
+            assert!(rt; numbers.as_slice() == [3, 4].as_slice());
         }
         None => assert!(rt; false),
     }
