@@ -1,5 +1,5 @@
 -- Addresses and prefixes: the ClickHouse documentation's IPv4 and IPv6, in this profile.
-use Rattle.std.specs.Prelude.{◌≡◌, ℕ, ◌-◌, ◌*◌, ◌/◌, ◌^◌, true, false, not, ◌||◌, ◌==◌, nat_le, if◌then◌else◌, List, length, drop, slice_index, Option, Some, None, Result, Ok}
+use Rattle.std.specs.Prelude.{◌%◌, ◌<◌, ◌≤◌, ◌≡◌, ℕ, ◌-◌, ◌*◌, ◌/◌, ◌^◌, true, false, not, ◌||◌, ◌==◌, nat_le, if◌then◌else◌, List, length, drop, slice_index, Option, Some, None, Result, Ok}
 use Rattle.std.specs.Option.{option_map, option_or, option_and_then}
 use Rattle.std.specs.Int.{w32, w128, to_be_bytes, from_be_bytes}
 use Rattle.std.specs.Net.Addr.{octets_of, segments_of}
@@ -63,6 +63,16 @@ first_bits width count n = n / 2 ^ (width - count) * 2 ^ (width - count)
 abbrev pub prefix_of : Address → ℕ → Prefix
 prefix_of (address.V4 n) len = record { v6 = false; bits = first_bits 32 len n; len = len }
 prefix_of (address.V6 n) len = record { v6 = true; bits = first_bits 128 len n; len = len }
+
+-- how many bits an address of the prefix's family has
+abbrev pub prefix_width : Prefix → ℕ
+prefix_width p = if p.v6 then 128 else 32
+
+-- The first bits of an address of its family; the bits past its length are 0.
+pub record IsPrefix (p : Prefix) : Type 0 where
+  pub len : p.len ≤ prefix_width p
+  pub bits : p.bits < 2 ^ prefix_width p
+  pub cleared : p.bits % 2 ^ (prefix_width p - p.len) ≡ 0
 
 -- how many bits an address of the family has
 abbrev pub width_of : Address → ℕ

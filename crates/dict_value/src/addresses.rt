@@ -1,6 +1,6 @@
 // Addresses and prefixes.
-ghost use Rattle.std.specs.Prelude.{◌≡◌, ◌↔◌, ◌≤◌, OnErr, IfOk, IfSome, Ok};
-ghost use Rattle.dict_value.specs.Addresses.{IsAddress, v4_in, v6_in, v4_of, v6_of, address_in, length_in, prefix_len_in, prefix_in, prefix_of, width_of, first_bits};
+ghost use Rattle.std.specs.Prelude.{◌≡◌, ◌↔◌, ◌≤◌, ◌-◌, ◌%◌, ◌^◌, OnErr, IfOk, IfSome, Ok};
+ghost use Rattle.dict_value.specs.Addresses.{IsAddress, IsPrefix, v4_in, v6_in, v4_of, v6_of, address_in, length_in, prefix_len_in, prefix_in, prefix_of, width_of, first_bits};
 ghost use Rattle.dict_value.specs.Numbers.{given};
 ghost use Rattle.dict_value.specs.declared.value.Address.{Address};
 ghost use Rattle.dict_value.specs.declared.value.BadValue.TheVariants.{BadAddress};
@@ -108,7 +108,9 @@ fn prefix_len_in(rest: &[u8], width: u8) -> Option<u8>
 fn first_bits(width: u8, count: u8, bits: u128) -> u128
     requires count { count ≤ width }
     requires width { width ≤ 128 }
-    ensures { result ≡ first_bits width count bits }
+    ensures value { result ≡ first_bits width count bits }
+    ensures bound { result ≤ bits }
+    ensures cleared { result % 2 ^ (width - count) ≡ 0 }
 {
     let cleared = u32::from(width - count);
     if cleared == 128 {
@@ -131,7 +133,8 @@ fn width_of(address: &Address) -> u8
 /// The prefix of an address.
 fn prefix_of(address: &Address, len: u8) -> Prefix
     requires { len ≤ width_of address.now }
-    ensures { result ≡ prefix_of address.now len }
+    ensures value { result ≡ prefix_of address.now len }
+    ensures fits { IsPrefix result }
 {
     match address {
         Address::V4(bits) => Prefix {
@@ -150,7 +153,8 @@ fn prefix_of(address: &Address, len: u8) -> Prefix
 /// The prefix that a text writes, with the bits past its length cleared.
 #[tactic(auto, unfolding(crate::specs::Addresses::prefix_in))]
 pub fn read_prefix(text: &[u8]) -> Result<Prefix, BadValue>
-    ensures { result ≡ given (prefix_in text.now) BadAddress Ok }
+    ensures value { result ≡ given (prefix_in text.now) BadAddress Ok }
+    ensures fits { IfOk result IsPrefix }
 {
     let (before, rest) = cut_before(b'/', text);
     let Some(address) = address_in(before) else {

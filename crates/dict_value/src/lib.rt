@@ -30,7 +30,7 @@ pub use counted::{Counted, Steps};
 pub use digit_text::read_digits;
 pub use fault::{BadRow, BlockFault, CallFault, Cause, Exit, FetchFault, LineFault, NoMemory, Why};
 pub use list::ListOf;
-pub use reading::{default_of, read_value};
+pub use reading::{default_of, read_value, written_is_read};
 pub use split::split_at_byte;
 pub use value::{
     Address, AttrType, BadValue, ColType, Fetched, FetchedRow, Field, Fields, KeyList, MaybeRow,

@@ -1,6 +1,8 @@
 // A value from a field, and the value that stands where none is given.
-ghost use Rattle.std.specs.Prelude.{◌≡◌, IfOk};
-ghost use Rattle.dict_value.specs.Values.{reading, text_reading, as_value, Gives, default_value, default_of_column, FitsColumn, HasType};
+ghost use Rattle.std.specs.Prelude.{◌≡◌, IfOk, Ok};
+ghost use Rattle.dict_value.specs.Values.{reading, text_reading, as_value, Gives, default_value, default_of_column, FitsColumn, HasType, text_of};
+ghost use Rattle.dict_value.specs.declared.value.ColType.{ColType};
+ghost use Rattle.dict_value.specs.declared.value.Value.{Value};
 ghost use Rattle.dict_value.specs.declared.value.Value.TheVariants.{S};
 
 use crate::addresses::{read_v4, read_v6};
@@ -51,6 +53,11 @@ fn read_text(alloc: Global, base: ColType, text: &[u8]) -> Result<Value, BadValu
         ColType::Decimal(digits, scale) => read_decimal(text, digits, scale),
     }
 }
+
+/// What is written of a value is read as that value, for every value of every type.
+pub fn written_is_read()
+    ensures { (t : ColType) (v : Value) → HasType t v → text_reading t (text_of t v) ≡ Ok v }
+{}
 
 /// What stands where no value is given: Null where it is allowed, and else 0 or the empty string.
 pub fn default_of(alloc: Global, t: &AttrType) -> Value

@@ -667,3 +667,28 @@ fn counted(rt: HostRuntime) -> Result<(), Fail> {
     assert_eq!(rt; items.len(), 3);
     Ok(())
 }
+
+/// The bytes and the numbers that growths leave, or `None` for want of memory.
+fn grown(alloc: Global) -> Option<(Bytes, ListOf<u64>)> {
+    let mut bytes = Bytes::with_room(alloc, 4).ok()?;
+    bytes.push(7).ok()?;
+    bytes.extend(&[8, 9]).ok()?;
+    let zeros = Bytes::zeros(alloc, 2).ok()?;
+    bytes.extend(zeros.as_slice()).ok()?;
+    bytes.store(1, &[5]);
+    let mut numbers = ListOf::with_room(alloc, 1).ok()?;
+    numbers.push(3).ok()?;
+    numbers.push(4).ok()?;
+    Some((bytes, numbers))
+}
+
+#[test]
+fn growths_find_memory(rt: HostRuntime) {
+    match grown(rt.alloc()) {
+        Some((bytes, numbers)) => {
+            assert!(rt; bytes.as_slice() == [7, 5, 9, 0, 0].as_slice());
+            assert!(rt; numbers.as_slice() == [3, 4].as_slice());
+        }
+        None => assert!(rt; false),
+    }
+}
