@@ -92,6 +92,13 @@ impl Bytes {
         self.items.is_empty()
     }
 
+    /// Whether two lists have the same bytes.
+    pub fn is_same(&self, other: &Bytes) -> bool
+        ensures { IsTrue result ↔ (self.now ≡ other.now) }
+    {
+        self.items.as_slice() == other.items.as_slice()
+    }
+
     /// Appends one byte; after `NoMemory` the list is as it was.
     pub fn push(&mut self, byte: u8) -> Result<(), NoMemory>
         ensures ok { OnOk result (self.new ≡ self.old ++ byte ∷ []) }

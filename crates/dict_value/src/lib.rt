@@ -2,19 +2,38 @@
 //!
 //! It promises that contracts see a [`Bytes`] or a [`ListOf`] as a plain list, that a growth which
 //! finds no memory leaves the list as it was, and that no other call takes memory.
+//!
+//! Each type reads exactly the texts that the definitions of `specs/` name, with the named fault for
+//! every other text, and writes one text of each value, which is read as that value again.
 #![tactic(auto)]
 
+mod addresses;
 pub mod bytes;
+mod counted;
+mod dates;
+mod decimals;
+pub mod digit_text;
 pub mod fault;
+mod identifiers;
 pub mod list;
+mod numbers;
+mod reading;
 pub mod split;
+#[cfg(test)]
+mod tests;
 pub mod value;
+mod writing;
 
+pub use addresses::{read_address, read_prefix};
 pub use bytes::Bytes;
+pub use counted::{Counted, Steps};
+pub use digit_text::read_digits;
 pub use fault::{BadRow, BlockFault, CallFault, Cause, Exit, FetchFault, LineFault, NoMemory, Why};
 pub use list::ListOf;
+pub use reading::{default_of, read_value};
 pub use split::split_at_byte;
 pub use value::{
     Address, AttrType, BadValue, ColType, Fetched, FetchedRow, Field, Fields, KeyList, MaybeRow,
-    Prefix, Row, Rows, Value,
+    Prefix, Row, Rows, Value, same_value,
 };
+pub use writing::write_value;

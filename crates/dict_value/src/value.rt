@@ -1,4 +1,6 @@
 // Types, values, fields and rows, as plain data.
+ghost use Rattle.std.specs.Prelude.{◌≡◌, ◌↔◌, IsTrue};
+
 use crate::bytes::Bytes;
 use crate::list::ListOf;
 
@@ -46,6 +48,25 @@ pub enum Value {
     V6(u128),
     /// A Decimal as the scaled whole number.
     Dec(i128),
+}
+
+/// Whether two values are one.
+pub fn same_value(a: &Value, b: &Value) -> bool
+    ensures { IsTrue result ↔ (a.now ≡ b.now) }
+{
+    match (a, b) {
+        (Value::Null, Value::Null) => true,
+        (Value::U(a), Value::U(b)) => a == b,
+        (Value::I(a), Value::I(b)) => a == b,
+        (Value::S(a), Value::S(b)) => a.is_same(b),
+        (Value::Day(a), Value::Day(b)) => a == b,
+        (Value::Second(a), Value::Second(b)) => a == b,
+        (Value::Id(a), Value::Id(b)) => a == b,
+        (Value::V4(a), Value::V4(b)) => a == b,
+        (Value::V6(a), Value::V6(b)) => a == b,
+        (Value::Dec(a), Value::Dec(b)) => a == b,
+        _ => false,
+    }
 }
 
 /// A field of a row's text.

@@ -1,0 +1,4 @@
+pub mod Feeds
+pub mod Hears
+pub mod Paths
+pub mod Runs

@@ -1,0 +1,17 @@
+// A lent spawner is a spawner, too.
+use crate::child::{Spawner, StartFault};
+use dict_value::Bytes;
+
+impl<S: Spawner> Spawner for &mut S {
+    type C = S::C;
+
+    ghost ran = { S.ran };
+
+    ghost scripts = { λ s. S.scripts s.now };
+
+    ghost start_faults = { λ s. S.start_faults s.now };
+
+    fn start(&mut self, words: &[Bytes]) -> Result<S::C, StartFault> {
+        (**self).start(words)
+    }
+}

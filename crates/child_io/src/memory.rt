@@ -1,0 +1,160 @@
+// Children in memory, by their scripts.
+ghost use Rattle.std.specs.Prelude.{◌≡◌, ◌<◌, ◌≤◌, ℕ, length, take, Some, []};
+ghost use Rattle.std.specs.List.{list_any};
+ghost use Rattle.std.specs.Str.{bytes_eq};
+ghost use Rattle.child_io.specs.Told.{is_accepted};
+
+use crate::child::{Child, Heard, Script, Spawner, StartFault};
+use dict_io::memory::piece_size;
+use dict_io::{Failed, Put};
+use dict_value::{Bytes, Exit, ListOf};
+use std::alloc::Global;
+
+/// The input is one of those, or there are none.
+fn accepts(accepted: &[Bytes], written: &[u8]) -> bool
+    ensures { result ≡ is_accepted accepted.now written.now }
+{
+    accepted.is_empty() || is_one_of(accepted, written)
+}
+
+fn is_one_of(accepted: &[Bytes], written: &[u8]) -> bool
+    ensures { result ≡ list_any (λ y. bytes_eq y written.now) accepted.now }
+{
+    accepted.iter().any(|input| input.as_slice() == written)
+}
+
+/// A child in memory, by its script.
+#[derive(Drop)]
+pub struct MemoryChild {
+    script: Script,
+    input: Bytes,
+    used: usize,
+    at: usize,
+    reads: u64,
+    writes: u64,
+    faults: u64,
+    closed: bool,
+    ghost room: { length input ≡ script.room },
+    ghost used_within: { used ≤ length input },
+    ghost at_within: { at ≤ length script.output },
+}
+
+impl Child for MemoryChild {
+    ghost use Rattle.std.specs.Prelude.{◌≡◌, ◌<◌, ◌≤◌, ℕ, length, take, Some, []};
+    ghost use Rattle.child_io.specs.declared.child.How.{How};
+
+    ghost told = { λ c. Some (record { script = c.script; written = take c.used c.input; taken = c.at; reads = c.reads; writes = c.writes }) };
+
+    ghost closed = { λ c. c.closed };
+
+    ghost faults = { λ c. c.faults };
+
+    ghost broke = { λ how. Unit {0} };
+
+    fn write(&mut self, piece: &[u8]) -> Put {
+        let call = self.writes;
+        self.writes = call.saturating_add(1);
+        let count = piece.len().min(self.input.len() - self.used);
+        if count == 0 || self.script.failing_writes.as_slice().contains(&call) {
+            self.faults = self.faults.saturating_add(1);
+            return Put::Failed;
+        }
+        self.input.store(self.used, &piece[..count]);
+        self.used += count;
+        Put::Bytes(count)
+    }
+
+    fn close_input(&mut self) {
+        self.closed = true;
+    }
+
+    fn read(&mut self, buf: &mut [u8], _limit_ms: u32) -> Heard {
+        let call = self.reads;
+        self.reads = call.saturating_add(1);
+        let fails = self.script.failing_reads.as_slice().contains(&call);
+        if fails
+            || !accepts(
+                self.script.accepted.as_slice(),
+                &self.input.as_slice()[..self.used],
+            )
+        {
+            self.faults = self.faults.saturating_add(1);
+            return Heard::Failed;
+        }
+        if self.script.timed_out_reads.as_slice().contains(&call) {
+            self.faults = self.faults.saturating_add(1);
+            return Heard::TimedOut;
+        }
+        let rest = &self.script.output.as_slice()[self.at..];
+        let count = piece_size(&self.script.sizes, call, buf.len()).min(rest.len());
+        if count == 0 {
+            return Heard::End;
+        }
+        buf[..count].copy_from_slice(&rest[..count]);
+        self.at += count;
+        Heard::Bytes(count)
+    }
+
+    fn wait(&mut self) -> Result<Exit, Failed> {
+        if self.script.wait_fails {
+            self.faults = self.faults.saturating_add(1);
+            return Err(Failed);
+        }
+        Ok(self.script.exit)
+    }
+}
+
+/// A spawner whose children follow scripts, in turn.
+#[derive(Drop)]
+pub struct MemorySpawner {
+    alloc: Global,
+    scripts: ListOf<Script>,
+    faults: u64,
+}
+
+impl MemorySpawner {
+    pub fn new(alloc: Global, scripts: ListOf<Script>) -> MemorySpawner
+        ensures scripts { ⟦<MemorySpawner as Spawner>⟧.scripts result ≡ Some scripts }
+        ensures faults { ⟦<MemorySpawner as Spawner>⟧.start_faults result ≡ 0 }
+    {
+        MemorySpawner {
+            alloc,
+            scripts,
+            faults: 0,
+        }
+    }
+}
+
+impl Spawner for MemorySpawner {
+    type C = MemoryChild;
+
+    ghost ran = { λ words output exit. Unit {0} };
+
+    ghost scripts = { λ s. Some s.scripts };
+
+    ghost start_faults = { λ s. s.faults };
+
+    fn start(&mut self, _words: &[Bytes]) -> Result<MemoryChild, StartFault> {
+        let Some(script) = self.scripts.pop_front() else {
+            self.faults = self.faults.saturating_add(1);
+            return Err(StartFault::Failed);
+        };
+        if script.start_fails {
+            self.faults = self.faults.saturating_add(1);
+            return Err(StartFault::Failed);
+        }
+        match Bytes::zeros(self.alloc, script.room as usize) {
+            Ok(input) => Ok(MemoryChild {
+                script,
+                input,
+                used: 0,
+                at: 0,
+                reads: 0,
+                writes: 0,
+                faults: 0,
+                closed: false,
+            }),
+            Err(_) => Err(StartFault::NoMemory),
+        }
+    }
+}

@@ -1,0 +1,76 @@
+// The words that a child is started with.
+ghost use Rattle.std.specs.Prelude.{◌≡◌, ◌≢◌, ◌++◌, IfOk, MatchOption, if◌then◌else◌, codes};
+ghost use Rattle.std.specs.List.{All};
+ghost use Rattle.child_io.specs.Words.{is_blank, words_in, in_folder, source_words, IsLastSlash, IsFolder};
+
+use dict_schema::SourceOf;
+use dict_value::{Bytes, ListOf, NoMemory};
+use std::alloc::Global;
+
+/// The words to start a source's program with. A command of blanks alone, which no sound definition
+/// has, gives no words where it is run directly.
+pub fn words_of(alloc: Global, s: &SourceOf, folder: &[u8]) -> Result<ListOf<Bytes>, NoMemory>
+    ensures { IfOk result (λ words. words ≡ source_words s.now folder.now) }
+{
+    if s.direct {
+        direct_words(alloc, s.command.as_slice(), folder)
+    } else {
+        let mut words = ListOf::with_room(alloc, 3)?;
+        words.push(Bytes::copy_of(alloc, b"/bin/sh")?)?;
+        words.push(Bytes::copy_of(alloc, b"-c")?)?;
+        words.push(Bytes::copy_of(alloc, s.command.as_slice())?)?;
+        Ok(words)
+    }
+}
+
+/// A space or a tab.
+fn blank(byte: u8) -> bool
+    ensures { result ≡ is_blank byte }
+{
+    byte == b' ' || byte == b'\t'
+}
+
+/// The words of a command, the first one in the folder's `user_scripts`.
+fn direct_words(alloc: Global, command: &[u8], folder: &[u8]) -> Result<ListOf<Bytes>, NoMemory>
+    ensures { IfOk result (λ words. words ≡ in_folder folder.now (words_in command.now)) }
+{
+    let mut words = ListOf::new(alloc);
+    for part in command.split(|b| blank(*b)) {
+        if part.is_empty() {
+            continue;
+        }
+        let first = words.is_empty();
+        words.push(word_of(alloc, folder, part, first)?)?;
+    }
+    Ok(words)
+}
+
+/// The word of a part; the first one is a program of the folder's `user_scripts`.
+fn word_of(alloc: Global, folder: &[u8], part: &[u8], first: bool) -> Result<Bytes, NoMemory>
+    ensures { IfOk result (λ word. word ≡ (if first then folder.now ++ codes "/user_scripts/" ++ part.now else part.now)) }
+{
+    if !first {
+        return Bytes::copy_of(alloc, part);
+    }
+    let mut path = Bytes::copy_of(alloc, folder)?;
+    path.extend(b"/user_scripts/")?;
+    path.extend(part)?;
+    Ok(path)
+}
+
+/// Where the last slash of a path is.
+fn last_slash(path: &[u8]) -> Option<usize>
+    ensures { MatchOption result (All (λ b. b ≢ 47) path.now) (IsLastSlash path.now) }
+{
+    path.iter().rposition(|b| *b == b'/')
+}
+
+/// The folder that a file lies in: the part of its path before the last slash, or `.`.
+pub fn folder_of(path: &[u8]) -> &[u8]
+    ensures { IsFolder path.now result.now }
+{
+    match last_slash(path) {
+        Some(place) => &path[..place],
+        None => b".",
+    }
+}

@@ -1,0 +1,117 @@
+// What the program meets, as traits.
+ghost use Rattle.std.specs.Prelude.{◌≡◌, ◌<◌, ◌≤◌, ℕ, List, length, Option, IsErr, IsErrOf};
+ghost use Rattle.dict_io.specs.Outside.{HasCause, GotGives, GotWithin, PutGives, PutWithin, Side, WritesPrefix, ReadsFile, NextMoment};
+
+use dict_value::Bytes;
+use thiserror::Error;
+
+/// A call of the outside failed.
+#[derive(Clone, Copy, Debug, PartialEq, Eq)]
+pub struct Failed;
+
+/// What a read gave: the bytes at the front of the buffer, the end, or a fault.
+#[derive(Clone, Copy, Debug, PartialEq, Eq)]
+pub enum Got {
+    Bytes(usize),
+    End,
+    Failed,
+}
+
+/// What a write took: so many bytes of the piece, or it failed.
+#[derive(Clone, Copy, Debug, PartialEq, Eq)]
+pub enum Put {
+    Bytes(usize),
+    Failed,
+}
+
+/// Why a file wasn't read.
+#[derive(Clone, Copy, Debug, PartialEq, Eq, Error)]
+pub enum ShelfFault {
+    #[error("the file can't be read")]
+    Failed,
+    #[error("the file is too long")]
+    TooLong,
+    #[error("no memory")]
+    NoMemory,
+}
+
+/// Bytes that come from outside.
+pub trait Source {
+    /// What is left to be read, where it tells that.
+    ghost left: { Self → Option (List ℕ) };
+
+    /// How often a read has failed.
+    ghost read_faults: { Self → ℕ };
+
+    /// What a read leaves as it is: the side that is written, where there is one.
+    ghost kept_by_read: { Self → Side };
+
+    fn read(&mut self, buf: &mut [u8]) -> Got
+        requires { 0 < length buf.old }
+        ensures bound { GotWithin result buf.new }
+        ensures bytes { GotGives (left self.old) (left self.new) result buf.new }
+        ensures cause { HasCause (read_faults self.old) (read_faults self.new) (result ≡ Got.Failed) }
+        ensures kept { kept_by_read self.new ≡ kept_by_read self.old };
+}
+
+/// Where bytes go.
+pub trait Sink {
+    /// What was written, where it tells that.
+    ghost written: { Self → Option (List ℕ) };
+
+    /// How often a write has failed.
+    ghost write_faults: { Self → ℕ };
+
+    /// What a write leaves as it is: the side that is read, where there is one.
+    ghost kept_by_write: { Self → Side };
+
+    fn write(&mut self, piece: &[u8]) -> Put
+        requires { 0 < length piece.now }
+        ensures bound { PutWithin result piece.now }
+        ensures bytes { PutGives (written self.old) (written self.new) result piece.now }
+        ensures cause { HasCause (write_faults self.old) (write_faults self.new) (result ≡ Put.Failed) }
+        ensures kept { kept_by_write self.new ≡ kept_by_write self.old };
+}
+
+/// Files by their names.
+pub trait Shelf {
+    /// Of a name: the file's bytes, or that there is no such file, where it tells that.
+    ghost file: { Self → List ℕ → Option (Option (List ℕ)) };
+
+    /// How often a file wasn't read.
+    ghost shelf_faults: { Self → ℕ };
+
+    /// The bytes of a file that has at most `limit` of them.
+    fn read_file(&mut self, name: &str, limit: u32) -> Result<Bytes, ShelfFault>
+        ensures bytes { ReadsFile (file self.old name.now) limit result }
+        ensures cause { HasCause (shelf_faults self.old) (shelf_faults self.new) (IsErrOf result ShelfFault.Failed) }
+        ensures rest { file self.new ≡ file self.old };
+}
+
+/// The last moment: a number above it that a clock gives is read as this one.
+pub const LAST_MOMENT: u64 = 9_223_372_036_854_775_807;
+
+/// Moments, as seconds since the midnight UTC of 1970-01-01.
+pub trait Clock {
+    /// The moments that come, where it tells them; the last one stays.
+    ghost moments: { Self → Option (List ℕ) };
+
+    fn now(&mut self) -> u64
+        ensures { NextMoment (moments self.old) (moments self.new) result };
+}
+
+/// Writes the whole piece, or a front of it and then a write fails.
+pub fn write_all<O: Sink>(out: &mut O, piece: &[u8]) -> Result<(), Failed>
+    ensures bytes { WritesPrefix (O.written out.old) (O.written out.new) piece.now result }
+    ensures cause { HasCause (O.write_faults out.old) (O.write_faults out.new) (IsErr result) }
+    ensures kept { O.kept_by_write out.new ≡ O.kept_by_write out.old }
+{
+    let mut done = 0;
+    while done < piece.len() {
+        match out.write(&piece[done..]) {
+            Put::Bytes(count) => done += count,
+            Put::Failed => return Err(Failed),
+        }
+    }
+    Ok(())
+}

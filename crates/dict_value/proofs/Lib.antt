@@ -1,0 +1,14 @@
+-- Lemmas of this crate.
+pub mod Again
+pub mod CivilDays
+pub mod Cuts
+pub mod DigitTexts
+pub mod Digits
+pub mod LastDigits
+pub mod Places
+pub mod Shown
+pub mod WrittenAddresses
+pub mod WrittenBytes
+pub mod WrittenDates
+pub mod WrittenDecimals
+pub mod WrittenNumbers

@@ -1,0 +1,71 @@
+-- A core stepped by the events of a load.
+use Rattle.std.proofs.Common.{◌≡◌, ◌<◌, ◌≤◌, ◌+◌, ℕ, List, [], ◌∷◌, ◌++◌, length, map, refl, ap, sym, ◌∙◌, subst, arith, Option, Result, Ok, Err, ◌⊎◌, inl, inr, Bool, true, false, nat_lt}
+use Rattle.std.specs.List.{concat}
+use Rattle.dict_value.specs.declared.fault.Cause.{Cause}
+use Rattle.dict_value.specs.declared.fault.Exit.{Exit}
+use Rattle.child_io.specs.declared.child.Script.{Script}
+use Rattle.child_io.specs.declared.pieces.PieceEnd.{PieceEnd}
+use Rattle.load_core.specs.declared.dictionary.DictCore.{DictCore}
+use Rattle.load_core.specs.declared.dictionary.DictEvent.{DictEvent}
+use Rattle.load_core.specs.declared.dictionary.DictEvent.TheVariants.{Start, Piece, Finish, Publish, Post}
+use Rattle.load_core.specs.declared.dictionary.Phase.{Phase}
+use Rattle.load_core.specs.declared.dictionary.Phase.TheVariants.{Idle, Reading, Ready, ToPost}
+use Rattle.load_core.specs.declared.dictionary.DictEffect.TheVariants as effect
+use Rattle.load_core.specs.DictSteps.{stepped, row, refused, Stepped}
+use Rattle.std.proofs.lemmas.Bool.Decides.{nat_tests}
+use Rattle.std.specs.Prelude.{if◌then◌else◌}
+use Rattle.dictd.specs.Loads.{most_loads}
+use Rattle.load_core.specs.declared.strict.TableFault.{TableFault}
+use Rattle.load_core.specs.declared.strict.TableFault.TheVariants.{Refused, NoMemory}
+use Rattle.load_core.specs.declared.strict.TextRow.{TextRow}
+use Rattle.dictd.specs.declared.ending.LoadEnd.{LoadEnd}
+use Rattle.dictd.specs.declared.ending.LoadEnd.TheVariants.{Published, Failed, NoMemory as EndNoMemory}
+use Rattle.dictd.specs.Loads.{core_after, end_events, load_events, EndsLoad, State, Runs}
+use Rattle.dictd.specs.Judged.{ReadsChild, IsRead, PublishesAs, FinishesAs}
+
+pub core_after-append : (core : DictCore) (first second : List DictEvent) → core_after core (first ++ second) ≡ core_after (core_after core first) second
+core_after-append core [] second = refl
+core_after-append core (event ∷ first) second = core_after-append (stepped core event).core first second
+
+-- a piece leaves a core that reads
+piece-row : (t : Bool) (core : DictCore) → (if t then (let s : Stepped = record { core = core; effect = effect.Taken } in s) else refused core).core ≡ core
+piece-row true core = refl
+piece-row false core = refl
+
+piece-keeps : (core : DictCore) (count : ℕ) → core.phase ≡ Reading → (stepped core (Piece count)).core ≡ core
+piece-keeps core count reading = ap (λ p. (row p (Piece count) core).core) reading ∙ piece-row (nat_lt 0 count) core
+
+-- a load began: the loads weren't used up, and the core reads
+begun-row : (t : Bool) (core : DictCore) (number : ℕ) → nat_lt core.loads 9223372036854775807 ≡ t → effect.Begun number ≡ (if t then (let s : Stepped = record { core = record core { loads = core.loads + 1; phase = Reading }; effect = effect.Begun (core.loads + 1) } in s) else refused core).effect → (core.loads < most_loads) × ((if t then (let s : Stepped = record { core = record core { loads = core.loads + 1; phase = Reading }; effect = effect.Begun (core.loads + 1) } in s) else refused core).core.phase ≡ Reading)
+begun-row true core number test e = (grind (arith, nat_tests), refl)
+begun-row false core number test e = cc
+
+pub begun : (core : DictCore) (number : ℕ) → core.phase ≡ Idle → effect.Begun number ≡ (stepped core Start).effect → (core.loads < most_loads) × ((stepped core Start).core.phase ≡ Reading)
+begun core number idle e =
+    let p = begun-row (nat_lt core.loads 9223372036854775807) core number refl (e ∙ ap (λ q. (row q Start core).effect) idle) in
+    (p.0, ap (λ q. (row q Start core).core.phase) idle ∙ p.1)
+
+pub pieces-keep : (core : DictCore) (pieces : List (List ℕ)) → core.phase ≡ Reading → core_after core (map (λ piece. Piece (length piece)) pieces) ≡ core
+pieces-keep core [] reading = refl
+pieces-keep core (piece ∷ pieces) reading = ap (λ c. core_after c (map (λ p. Piece (length p)) pieces)) (piece-keeps core (length piece) reading) ∙ pieces-keep core pieces reading
+
+-- what was read and how the load ended by it
+pub ends-load : (ran : List (List ℕ) → List ℕ → Exit → Type 0) (words : List (List ℕ)) (output : List ℕ) (ending : PieceEnd) (read : Result (List TextRow) TableFault) (end : LoadEnd) (old new : List (List TextRow)) → IsRead ran words output ending read → FinishesAs old read end new → EndsLoad output ending end old new
+ends-load ran words output ending (Ok rows) (Published number) old new given finished = (given.0, (rows, given.2, finished.0, finished.1))
+ends-load ran words output ending (Ok rows) (Failed cause) old new given finished = absurd finished
+ends-load ran words output ending (Ok rows) EndNoMemory old new given finished = finished
+ends-load ran words output ending (Err (Refused cause)) end old new given finished =
+    let P : LoadEnd → Type 0 = λ e. EndsLoad output ending e old new in
+    subst P (sym finished.0) (given, finished.1)
+ends-load ran words output ending (Err NoMemory) end old new given finished =
+    let P : LoadEnd → Type 0 = λ e. EndsLoad output ending e old new in
+    subst P (sym finished.0) finished.1
+
+pub runs : (ran : List (List ℕ) → List ℕ → Exit → Type 0) (words : List (List ℕ)) (old new : State) (read : Result (List TextRow) TableFault) (end : LoadEnd) → (stepped old.core Start).core.phase ≡ Reading → ReadsChild old.scripts new.scripts ran words read → FinishesAs old.versions read end new.versions → new.core ≡ core_after (stepped old.core Start).core (end_events end) → Runs old end new
+runs ran words old new read end reading r finished core = record {
+  pieces = r.pieces;
+  ending = r.ending;
+  child = r.child;
+  list = ends-load ran words (concat r.pieces) r.ending read end old.versions new.versions r.given finished;
+  core = core ∙ ap (λ c. core_after c (end_events end)) (sym (pieces-keep (stepped old.core Start).core r.pieces reading)) ∙ sym (core_after-append (stepped old.core Start).core (map (λ piece. Piece (length piece)) r.pieces) (end_events end));
+}

@@ -1,0 +1,9 @@
+pub mod Asked
+pub mod CommandLine
+pub mod Inputs
+pub mod Judged
+pub mod Loads
+pub mod OneRun
+pub mod Requests
+pub mod Sessions
+pub mod ThinText

@@ -1,0 +1,142 @@
+-- One run of `once`: what it reads, starts and writes, and its status.
+use Rattle.std.specs.Prelude.{◌≡◌, ◌<◌, ◌≤◌, ℕ, List, [], ◌∷◌, ◌++◌, ◌⊎◌, Option, Some, None, IfSome, ⊤, Result, Ok, Err, codes, length, take}
+use Rattle.std.specs.Io.KnownBytes.{prepend_known, append_known}
+use Rattle.child_io.specs.declared.child.Script.{Script}
+use Rattle.dictd.specs.declared.thin.ThinDefinition.{ThinDefinition}
+use Rattle.dictd.specs.declared.ending.LoadEnd.{LoadEnd}
+use Rattle.dictd.specs.declared.input.InputEnd.{InputEnd}
+use Rattle.dictd.specs.declared.input.InputEnd.TheVariants.{Ended, Failed, TooLong}
+use Rattle.dictd.specs.declared.once.Status.{Status}
+use Rattle.dictd.specs.declared.once.Status.TheVariants.{Done, Usage, DefsUnread, DefsRefused, ReadFault, WriteFault, LineTooLong, DefsTooLong, NoMemory}
+use Rattle.dictd.specs.CommandLine.{IsOnce}
+use Rattle.dictd.specs.ThinText.{Defines}
+use Rattle.dictd.specs.Inputs.{EndsInput}
+use Rattle.load_core.specs.DictSteps.{empty_core}
+use Rattle.dictd.specs.Loads.{State, Loads}
+use Rattle.dictd.specs.Sessions.{Serves, ServesFront}
+
+-- what is known of the children, the input and the output
+pub record Outside : Type 0 where
+  pub scripts : Option (List Script)
+  pub left : Option (List ℕ)
+  pub written : Option (List ℕ)
+
+-- the greatest number of bytes of a definitions file
+abbrev pub most_definitions : ℕ
+most_definitions = 4194304
+
+-- where the file is told, it has this text, within the limit
+abbrev pub IsFile : Option (Option (List ℕ)) → List ℕ → Type 0
+IsFile told text = IfSome told (λ file. (file ≡ Some text) × (length text ≤ most_definitions))
+
+-- where the file is told, it is there and has more bytes than the limit
+abbrev pub IsLongFile : Option (Option (List ℕ)) → Type 0
+IsLongFile told = IfSome told (λ file. (text : List ℕ) × (file ≡ Some text) × (most_definitions < length text))
+
+-- the dictionary was loaded once, and the input read so far
+pub record Begins (before : Outside) (loaded : State) (end : InputEnd) (asked : List ℕ) (left : Option (List ℕ)) : Type 0 where
+  pub first : LoadEnd
+  pub load : Loads (record { versions = []; core = empty_core; scripts = before.scripts }) first loaded
+  pub read : before.left ≡ prepend_known asked left
+  pub ended : EndsInput end asked left
+
+-- the run of a definition whose input ended so: the session's replies were written
+pub record RunsTo (end : InputEnd) (d : ThinDefinition) (before after : Outside) : Type 0 where
+  pub loaded : State
+  pub asked : List ℕ
+  pub begins : Begins before loaded end asked after.left
+  pub out : List ℕ
+  pub last : State
+  pub served : Serves d end asked loaded out last
+  pub scripts : after.scripts ≡ last.scripts
+  pub written : after.written ≡ append_known before.written out
+
+-- the same where a write failed: a front of the replies was written
+pub record RunsToFront (d : ThinDefinition) (before after : Outside) : Type 0 where
+  pub end : InputEnd
+  pub loaded : State
+  pub asked : List ℕ
+  pub begins : Begins before loaded end asked after.left
+  pub out : List ℕ
+  pub last : State
+  pub served : ServesFront d end asked loaded out last
+  pub scripts : after.scripts ≡ last.scripts
+  pub written : after.written ≡ append_known before.written out
+
+-- no child was started, or the first load's
+abbrev pub StartsOnce : Outside → Outside → Type 0
+StartsOnce before after = (after.scripts ≡ before.scripts) ⊎ ((end : LoadEnd) × (loaded : State) × Loads (record { versions = []; core = empty_core; scripts = before.scripts }) end loaded × (after.scripts ≡ loaded.scripts))
+
+-- the run of a definition by its status
+abbrev pub ServesRun : ThinDefinition → Outside → Outside → Status → Type 0
+ServesRun d before after Done = RunsTo Ended d before after
+ServesRun d before after ReadFault = RunsTo Failed d before after
+ServesRun d before after LineTooLong = RunsTo TooLong d before after
+ServesRun d before after WriteFault = RunsToFront d before after
+ServesRun d before after NoMemory = (after.written ≡ before.written) × StartsOnce before after
+ServesRun d before after Usage = ⊥
+ServesRun d before after DefsUnread = ⊥
+ServesRun d before after DefsRefused = ⊥
+ServesRun d before after DefsTooLong = ⊥
+
+-- a file's definition, or the status that it ends the run with
+abbrev pub ReadsDefinition : Option (Option (List ℕ)) → Result ThinDefinition Status → Type 0
+ReadsDefinition told (Ok d) = (text : List ℕ) × IsFile told text × Defines text d
+ReadsDefinition told (Err DefsRefused) = (text : List ℕ) × IsFile told text × ((d : ThinDefinition) → Defines text d → ⊥)
+ReadsDefinition told (Err DefsTooLong) = IsLongFile told
+ReadsDefinition told (Err DefsUnread) = ⊤
+ReadsDefinition told (Err NoMemory) = ⊤
+ReadsDefinition told (Err Done) = ⊥
+ReadsDefinition told (Err Usage) = ⊥
+ReadsDefinition told (Err ReadFault) = ⊥
+ReadsDefinition told (Err WriteFault) = ⊥
+ReadsDefinition told (Err LineTooLong) = ⊥
+
+-- a run whose definitions were read: a file by the name in the words defines what is run
+pub record RunsFile (words : List (List ℕ)) (file : List ℕ → Option (Option (List ℕ))) (before after : Outside) (status : Status) : Type 0 where
+  pub name : List ℕ
+  pub called : IsOnce words name
+  pub text : List ℕ
+  pub told : IsFile (file name) text
+  pub definition : ThinDefinition
+  pub defined : Defines text definition
+  pub run : ServesRun definition before after status
+
+-- the words are those of `once`, and the file's text defines nothing that is built
+pub record IsRefusedFile (words : List (List ℕ)) (file : List ℕ → Option (Option (List ℕ))) : Type 0 where
+  pub name : List ℕ
+  pub called : IsOnce words name
+  pub text : List ℕ
+  pub told : IsFile (file name) text
+  pub undefined : (d : ThinDefinition) → Defines text d → ⊥
+
+-- the run by its status. Free are only want of memory, and how many bytes went through before a read or a write that failed
+abbrev pub OnceRun : List (List ℕ) → (List ℕ → Option (Option (List ℕ))) → Outside → Outside → Status → Type 0
+OnceRun words file before after Done = RunsFile words file before after Done
+OnceRun words file before after ReadFault = RunsFile words file before after ReadFault
+OnceRun words file before after WriteFault = RunsFile words file before after WriteFault
+OnceRun words file before after LineTooLong = RunsFile words file before after LineTooLong
+OnceRun words file before after Usage = ((name : List ℕ) → IsOnce words name → ⊥) × (after ≡ before)
+OnceRun words file before after DefsUnread = ((name : List ℕ) × IsOnce words name) × (after ≡ before)
+OnceRun words file before after DefsRefused = IsRefusedFile words file × (after ≡ before)
+OnceRun words file before after DefsTooLong = ((name : List ℕ) × IsOnce words name × IsLongFile (file name)) × (after ≡ before)
+OnceRun words file before after NoMemory = ((name : List ℕ) × IsOnce words name) × (after.written ≡ before.written) × StartsOnce before after
+
+-- the text that a status is told by
+abbrev pub status_text : Status → List ℕ
+status_text Done = []
+status_text Usage = codes "usage: dictd once DEFS SEED | dictd serve DEFS ADDR WORKERS SEED | dictd demo N SEED" ++ 10 ∷ []
+status_text DefsUnread = codes "cannot read definitions" ++ 10 ∷ []
+status_text DefsRefused = codes "definitions line 1 byte 0: unsupported" ++ 10 ∷ []
+status_text ReadFault = codes "read failed" ++ 10 ∷ []
+status_text WriteFault = codes "write failed" ++ 10 ∷ []
+status_text LineTooLong = codes "line too long" ++ 10 ∷ []
+status_text DefsTooLong = codes "definitions too long" ++ 10 ∷ []
+status_text NoMemory = codes "no memory" ++ 10 ∷ []
+
+-- a text was written, or a front of it and the count of faults rose
+pub record Tells (old new : Option (List ℕ)) (text : List ℕ) (failed : Type 0) : Type 0 where
+  pub count : ℕ
+  pub front : count ≤ length text
+  pub written : new ≡ append_known old (take count text)
+  pub whole : (count ≡ length text) ⊎ failed

@@ -1,0 +1,220 @@
+// The loads of a dictionary: each starts one child, and publishes its rows or says why there are none.
+ghost use Rattle.std.specs.Prelude.{◌≡◌, ◌<◌, ◌++◌, ◌∷◌, [], ℕ, List, false, length, MatchResult};
+ghost use Rattle.std.specs.Result.{ForOk};
+ghost use Rattle.load_core.specs.DictSteps.{empty_core};
+ghost use Rattle.load_core.specs.declared.strict.TextRow.{TextRow};
+ghost use Rattle.load_core.specs.StrictRows.{IsTable};
+ghost use Rattle.load_core.specs.declared.dictionary.Phase.TheVariants.{Reading};
+ghost use Rattle.dictd.specs.Loads.{Loads, core_after, end_events, IsOrigin, IsIdle};
+ghost use Rattle.load_core.specs.declared.dictionary.DictEvent.TheVariants.{Finish, Post};
+ghost use Rattle.load_core.specs.declared.dictionary.Ending.TheVariants.{Failed as EndFailed};
+ghost use Rattle.dictd.specs.Judged.{IsJudged, ReadsChild, PublishesAs, FinishesAs};
+
+use crate::ending::LoadEnd;
+use child_io::{Gathered, PieceEnd, Pieces, Spawner, run_pieces};
+use dict_value::{Bytes, Cause, Exit, ListOf};
+use load_core::{DictCore, DictEffect, DictEvent, Ending, TableFault, TextRow, read_table};
+use std::alloc::Global;
+use std::marker::{Brand, PhantomData};
+use version_slot::{Fact, PlainSlot, Publisher, Token};
+
+/// The greatest number of bytes that one run may print.
+pub const MOST_OUTPUT: u32 = 67_108_864;
+
+/// How long a read of a child may take, in milliseconds.
+pub const READ_MS: u32 = 10_000;
+
+/// Names the words that the children of a slot are started with.
+pub trait ChildWords {
+    ghost words: { List (List ℕ) };
+}
+
+impl ChildWords for Brand {
+    ghost words = { [] };
+}
+
+/// The fact of a slot: each version is the whole output of a child that was started with these words
+/// and ended with status 0. It has no bytes.
+pub struct Origin<S, W> {
+    spawner: PhantomData<S>,
+    words: PhantomData<W>,
+}
+
+impl<S: Spawner, W: ChildWords> Fact<ListOf<TextRow>> for Origin<S, W> {
+    ghost allows = { λ _ rows. IsOrigin S.ran W.words rows };
+}
+
+/// Takes a child's output, and steps the core by one piece for each read.
+#[derive(Drop)]
+struct LoadPieces {
+    core: DictCore,
+    gathered: Gathered,
+    ghost reading: { core.phase ≡ Reading },
+}
+
+impl Pieces for LoadPieces {
+    ghost use Rattle.load_core.specs.declared.dictionary.DictCore.{DictCore};
+    ghost use Rattle.child_io.specs.Gathers.{Gathers};
+
+    ghost Kept = { DictCore };
+
+    ghost kept = { λ p. p.core };
+
+    ghost took = { λ p pieces. Gathers p.gathered pieces };
+
+    fn take(&mut self, piece: &[u8]) {
+        self.core.step(DictEvent::Piece(piece.len() as u32));
+        self.gathered.take(piece);
+    }
+}
+
+/// What a child gives that printed this and ended so.
+fn judge(alloc: Global, gathered: &Gathered, end: PieceEnd) -> Result<ListOf<TextRow>, TableFault>
+    ensures { IsJudged gathered.now end result }
+{
+    match end {
+        PieceEnd::NotStarted => Err(TableFault::Refused(Cause::Start)),
+        PieceEnd::Cut { timed_out: true } => Err(TableFault::Refused(Cause::TimedOut)),
+        PieceEnd::Cut { timed_out: false } => Err(TableFault::Refused(Cause::Read)),
+        PieceEnd::TooLong => Err(TableFault::Refused(Cause::Longer(MOST_OUTPUT))),
+        PieceEnd::WaitFailed => Err(TableFault::Refused(Cause::Read)),
+        PieceEnd::NoMemory => Err(TableFault::NoMemory),
+        PieceEnd::Ended(Exit::Killed) => Err(TableFault::Refused(Cause::Killed)),
+        PieceEnd::Ended(Exit::Code(number)) => judge_rows(alloc, gathered, number),
+    }
+}
+
+/// The same of a child that ended with a status.
+fn judge_rows(
+    alloc: Global,
+    gathered: &Gathered,
+    status: i32,
+) -> Result<ListOf<TextRow>, TableFault>
+    ensures { IsJudged gathered.now (PieceEnd.Ended (Exit.Code status)) result }
+{
+    if status != 0 {
+        return Err(TableFault::Refused(Cause::Status(status)));
+    }
+    if gathered.lost {
+        return Err(TableFault::NoMemory);
+    }
+    read_table(alloc, gathered.bytes.as_slice())
+}
+
+/// Ends a load for a cause.
+fn fail(core: &mut DictCore, cause: Cause)
+    ensures { core.new ≡ core_after core.old (Finish (EndFailed cause) ∷ Post ∷ []) }
+{
+    core.step(DictEvent::Finish(Ending::Failed(cause)));
+    core.step(DictEvent::Post);
+}
+
+/// Starts a child without input, reads it to its end, and judges what it gives.
+fn read_child<S: Spawner>(
+    alloc: Global,
+    spawner: &mut S,
+    words: &[Bytes],
+    core: DictCore,
+) -> Result<ListOf<TextRow>, TableFault>
+    requires { core.phase ≡ Reading }
+    ensures read { ReadsChild (S.scripts spawner.old) (S.scripts spawner.new) S.ran words.now result }
+{
+    let mut taken = LoadPieces {
+        core,
+        gathered: Gathered::new(alloc),
+    };
+    let end = run_pieces(spawner, words, MOST_OUTPUT, READ_MS, &mut taken);
+    judge(alloc, &taken.gathered, end)
+}
+
+/// Publishes the rows of a load.
+fn publish<S: Spawner, W: ChildWords>(
+    alloc: Global,
+    core: &mut DictCore,
+    versions: &mut PlainSlot<ListOf<TextRow>, Origin<S, W>>,
+    rows: ListOf<TextRow>,
+) -> LoadEnd
+    requires reading { core.old.phase ≡ Reading }
+    requires room { length versions.old < 9223372036854775807 }
+    requires origin { IsOrigin S.ran W.words rows }
+    ensures core { core.new ≡ core_after core.old (end_events result) }
+    ensures list { PublishesAs versions.old rows result versions.new }
+{
+    core.step(DictEvent::Finish(Ending::Rows));
+    match versions.publish(alloc, rows) {
+        Ok(token) => {
+            core.step(DictEvent::Publish);
+            core.step(DictEvent::Post);
+            LoadEnd::Published(token.number())
+        }
+        Err(_) => {
+            fail(core, Cause::NoMemory);
+            LoadEnd::NoMemory
+        }
+    }
+}
+
+/// Ends a load by what was read.
+fn finish<S: Spawner, W: ChildWords>(
+    alloc: Global,
+    core: &mut DictCore,
+    versions: &mut PlainSlot<ListOf<TextRow>, Origin<S, W>>,
+    read: Result<ListOf<TextRow>, TableFault>,
+) -> LoadEnd
+    requires reading { core.old.phase ≡ Reading }
+    requires room { length versions.old < 9223372036854775807 }
+    requires origin { ForOk read (IsOrigin S.ran W.words) }
+    ensures core { core.new ≡ core_after core.old (end_events result) }
+    ensures list { FinishesAs versions.old read result versions.new }
+{
+    match read {
+        Ok(rows) => publish::<S, W>(alloc, core, versions, rows),
+        Err(TableFault::Refused(cause)) => {
+            fail(core, cause);
+            LoadEnd::Failed(cause)
+        }
+        Err(TableFault::NoMemory) => {
+            fail(core, Cause::NoMemory);
+            LoadEnd::NoMemory
+        }
+    }
+}
+
+/// A dictionary's versions, and what its children are started with.
+#[derive(Drop)]
+pub struct Dictionary<S: Spawner, W: ChildWords> {
+    pub words: ListOf<Bytes>,
+    pub versions: PlainSlot<ListOf<TextRow>, Origin<S, W>>,
+    pub core: DictCore,
+    ghost words_are: { words ≡ W.words },
+    ghost idle: { IsIdle versions core },
+}
+
+impl<S: Spawner, W: ChildWords> Dictionary<S, W> {
+    pub fn new(alloc: Global, words: ListOf<Bytes>) -> Dictionary<S, W>
+        requires { words ≡ W.words }
+        ensures versions { result.versions ≡ [] }
+        ensures core { result.core ≡ empty_core }
+    {
+        Dictionary {
+            words,
+            versions: PlainSlot::new(alloc),
+            core: DictCore::new(),
+        }
+    }
+
+    /// One load, which leaves the list of versions where it fails.
+    pub fn load(&mut self, alloc: Global, spawner: &mut S) -> LoadEnd
+        ensures { Loads (record { versions = self.old.versions; core = self.old.core; scripts = S.scripts spawner.old }) result (record { versions = self.new.versions; core = self.new.core; scripts = S.scripts spawner.new }) }
+    {
+        let mut core = self.core;
+        match core.step(DictEvent::Start) {
+            DictEffect::Begun(_) => {}
+            _ => return LoadEnd::Failed(Cause::Spent),
+        }
+        let read = read_child(alloc, spawner, self.words.as_slice(), core);
+        let end = finish::<S, W>(alloc, &mut core, &mut self.versions, read);
+        self.core = core;
+        end
+    }
+}

@@ -1,0 +1,189 @@
+// The run of `once`.
+ghost use Rattle.std.specs.Prelude.{◌≡◌, ◌∷◌, [], ℕ, List, map, string_bytes, IsErr, IsErrOf, codes};
+ghost use Rattle.dict_io.specs.Outside.{HasCause, Rose};
+ghost use Rattle.child_io.specs.Words.{source_words};
+ghost use Rattle.dictd.specs.Asked.{IsRequestsOf};
+ghost use Rattle.dictd.specs.declared.thin.ThinDefinition.{ThinDefinition};
+ghost use Rattle.dictd.specs.OneRun.{OnceRun, Tells, status_text, ReadsDefinition, ServesRun};
+
+use crate::input::{InputEnd, read_input};
+use crate::load::{ChildWords, Dictionary};
+use crate::session::{Requests, serve_input};
+use crate::thin::{ThinDefinition, ThinFault, read_thin};
+use crate::words::once_file;
+use child_io::{Spawner, folder_of, words_of};
+use dict_io::{Clock, Shelf, ShelfFault, Sink, Source, write_all};
+use dict_value::{Bytes, ListOf};
+use std::alloc::Global;
+use std::marker::Brand;
+
+/// The greatest number of bytes of a definitions file.
+pub const MOST_DEFINITIONS: u32 = 4_194_304;
+
+/// The room that the first reply needs no memory for.
+const REPLY_ROOM: usize = 256;
+
+/// How a run ended; its number is the status of the program.
+#[derive(Clone, Copy, Debug, PartialEq, Eq)]
+pub enum Status {
+    Done = 0,
+    Usage = 2,
+    DefsUnread = 3,
+    DefsRefused = 4,
+    ReadFault = 5,
+    WriteFault = 6,
+    LineTooLong = 7,
+    DefsTooLong = 9,
+    NoMemory = 12,
+}
+
+impl Status {
+    ghost use Rattle.std.specs.Prelude.{◌≡◌};
+    ghost use Rattle.dictd.specs.OneRun.{status_text};
+
+    /// The text that tells it, with its line feed.
+    pub fn text(self) -> &'static [u8]
+        ensures { result.now ≡ status_text self }
+    {
+        match self {
+            Status::Done => b"",
+            Status::Usage =>
+                b"usage: dictd once DEFS SEED | dictd serve DEFS ADDR WORKERS SEED | dictd demo N SEED\n",
+            Status::DefsUnread => b"cannot read definitions\n",
+            Status::DefsRefused => b"definitions line 1 byte 0: unsupported\n",
+            Status::ReadFault => b"read failed\n",
+            Status::WriteFault => b"write failed\n",
+            Status::LineTooLong => b"line too long\n",
+            Status::DefsTooLong => b"definitions too long\n",
+            Status::NoMemory => b"no memory\n",
+        }
+    }
+}
+
+/// The definition of a file, or the status that it ends the run with.
+fn read_definition<F: Shelf>(
+    alloc: Global,
+    shelf: &mut F,
+    name: &str,
+) -> Result<ThinDefinition, Status>
+    ensures read { ReadsDefinition (F.file shelf.old name.now) result }
+    ensures cause { HasCause (F.shelf_faults shelf.old) (F.shelf_faults shelf.new) (IsErrOf result Status.DefsUnread) }
+{
+    let text = match shelf.read_file(name, MOST_DEFINITIONS) {
+        Ok(text) => text,
+        Err(ShelfFault::Failed) => return Err(Status::DefsUnread),
+        Err(ShelfFault::TooLong) => return Err(Status::DefsTooLong),
+        Err(ShelfFault::NoMemory) => return Err(Status::NoMemory),
+    };
+    match read_thin(alloc, text.as_slice()) {
+        Ok(definition) => Ok(definition),
+        Err(ThinFault::Unsupported) => Err(Status::DefsRefused),
+        Err(ThinFault::NoMemory) => Err(Status::NoMemory),
+    }
+}
+
+/// Loads a dictionary once, reads the input, and answers it.
+fn serve<S: Spawner, W: ChildWords, I: Source, O: Sink>(
+    alloc: Global,
+    requests: &Requests,
+    words: ListOf<Bytes>,
+    spawner: &mut S,
+    input: &mut I,
+    out: &mut O,
+    reply: &mut Bytes,
+) -> Status
+    requires { words ≡ W.words }
+    ensures reads { HasCause (I.read_faults input.old) (I.read_faults input.new) (result ≡ Status.ReadFault) }
+    ensures writes { HasCause (O.write_faults out.old) (O.write_faults out.new) (result ≡ Status.WriteFault) }
+    ensures run { (d : ThinDefinition) → IsRequestsOf d requests.now → ServesRun d (record { scripts = S.scripts spawner.old; left = I.left input.old; written = O.written out.old }) (record { scripts = S.scripts spawner.new; left = I.left input.new; written = O.written out.new }) result }
+{
+    let mut dictionary = Dictionary::<S, W>::new(alloc, words);
+    dictionary.load(alloc, spawner);
+    let Ok(asked) = read_input(alloc, input) else {
+        return Status::NoMemory;
+    };
+    match serve_input(
+        alloc,
+        requests,
+        &mut dictionary,
+        spawner,
+        out,
+        &asked,
+        reply,
+    ) {
+        Ok(()) => match asked.end {
+            InputEnd::Ended => Status::Done,
+            InputEnd::Failed => Status::ReadFault,
+            InputEnd::TooLong => Status::LineTooLong,
+        },
+        Err(_) => Status::WriteFault,
+    }
+}
+
+/// Runs the words, and writes nothing to the error output.
+fn run<F: Shelf, S: Spawner, C: Clock, I: Source, O: Sink>(
+    alloc: Global,
+    words: &[String],
+    shelf: &mut F,
+    spawner: &mut S,
+    clock: &mut C,
+    input: &mut I,
+    out: &mut O,
+) -> Status
+    ensures shelf { HasCause (F.shelf_faults shelf.old) (F.shelf_faults shelf.new) (result ≡ Status.DefsUnread) }
+    ensures reads { HasCause (I.read_faults input.old) (I.read_faults input.new) (result ≡ Status.ReadFault) }
+    ensures writes { HasCause (O.write_faults out.old) (O.write_faults out.new) (result ≡ Status.WriteFault) }
+    ensures run { OnceRun (map string_bytes words.now) (F.file shelf.old) (record { scripts = S.scripts spawner.old; left = I.left input.old; written = O.written out.old }) (record { scripts = S.scripts spawner.new; left = I.left input.new; written = O.written out.new }) result }
+{
+    let Some(name) = once_file(words) else {
+        return Status::Usage;
+    };
+    let definition = match read_definition(alloc, shelf, name) {
+        Ok(definition) => definition,
+        Err(status) => return status,
+    };
+    let Ok(requests) = Requests::new(alloc, &definition) else {
+        return Status::NoMemory;
+    };
+    let Ok(mut reply) = Bytes::with_room(alloc, REPLY_ROOM) else {
+        return Status::NoMemory;
+    };
+    let folder = folder_of(name.as_bytes());
+    let Ok(child_words) = words_of(alloc, &definition.source, folder) else {
+        return Status::NoMemory;
+    };
+    clock.now();
+    serve::<S, Brand, I, O>(
+        alloc,
+        &requests,
+        child_words,
+        spawner,
+        input,
+        out,
+        &mut reply,
+    )
+}
+
+/// Runs `once DEFS SEED`: reads the definitions file, loads the dictionary once, and answers the lines
+/// of the input. A status other than Done is told on the error output; a write there that fails is
+/// passed over.
+pub fn once<F: Shelf, S: Spawner, C: Clock, I: Source, O: Sink, E: Sink>(
+    alloc: Global,
+    words: &[String],
+    shelf: &mut F,
+    spawner: &mut S,
+    clock: &mut C,
+    input: &mut I,
+    out: &mut O,
+    err: &mut E,
+) -> Status
+    ensures shelf { HasCause (F.shelf_faults shelf.old) (F.shelf_faults shelf.new) (result ≡ Status.DefsUnread) }
+    ensures reads { HasCause (I.read_faults input.old) (I.read_faults input.new) (result ≡ Status.ReadFault) }
+    ensures writes { HasCause (O.write_faults out.old) (O.write_faults out.new) (result ≡ Status.WriteFault) }
+    ensures run { OnceRun (map string_bytes words.now) (F.file shelf.old) (record { scripts = S.scripts spawner.old; left = I.left input.old; written = O.written out.old }) (record { scripts = S.scripts spawner.new; left = I.left input.new; written = O.written out.new }) result }
+    ensures told { Tells (E.written err.old) (E.written err.new) (status_text result) (Rose (E.write_faults err.old) (E.write_faults err.new)) }
+{
+    let status = run(alloc, words, shelf, spawner, clock, input, out);
+    let _ = write_all(err, status.text());
+    status
+}

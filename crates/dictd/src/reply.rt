@@ -1,0 +1,78 @@
+// Replies, composed in a buffer that is used again for each of them.
+ghost use Rattle.std.specs.Prelude.{◌≡◌, ◌++◌, ◌∷◌, [], ◌==◌, IsOk, OnOk, OnErr, find, codes};
+ghost use Rattle.std.specs.Option.{option_copied};
+ghost use Rattle.load_core.specs.declared.strict.TextRow.{TextRow};
+ghost use Rattle.dictd.specs.Requests.{IsValue, refusal, version_name, load_reply, text_at};
+
+use crate::ending::LoadEnd;
+use dict_value::{Bytes, NoMemory};
+use itoa::Buffer;
+use load_core::TextRow;
+
+/// The reply that stands in place of one that found no memory.
+pub const NO_MEMORY_REPLY: &[u8] = b"ERR\t99\n";
+
+/// The reply to an input that is too long.
+pub const TOO_LONG_REPLY: &[u8] = b"ERR\t13\n";
+
+/// The first row with the key.
+fn find_row(rows: &[TextRow], key: u64) -> Option<&TextRow>
+    ensures { option_copied result ≡ find (λ (row : TextRow). row.key == key) rows.now }
+{
+    rows.iter().find(|row| row.key == key)
+}
+
+/// The text of the first row with the key, or nothing.
+pub fn first_text(rows: &[TextRow], key: u64) -> &[u8]
+    ensures { result.now ≡ text_at rows.now key }
+{
+    match find_row(rows, key) {
+        Some(row) => row.text.as_slice(),
+        None => b"",
+    }
+}
+
+/// Appends the name of a version.
+fn push_version(out: &mut Bytes, number: u64) -> Result<(), NoMemory>
+    ensures { OnOk result (out.new ≡ out.old ++ version_name number) }
+{
+    let mut digits = Buffer::new();
+    out.extend(b"v")?;
+    out.extend(digits.format(number).as_bytes())
+}
+
+/// The value of a key in the rows of a version.
+pub fn value_reply(out: &mut Bytes, number: u64, rows: &[TextRow], key: u64) -> Result<(), NoMemory>
+    ensures { OnOk result (out.new ≡ codes "OK" ++ 9 ∷ (version_name number ++ 9 ∷ (text_at rows.now key ++ 10 ∷ []))) }
+{
+    out.clear();
+    out.extend(b"OK\t")?;
+    push_version(out, number)?;
+    out.extend(b"\t")?;
+    out.extend(first_text(rows, key))?;
+    out.extend(b"\n")
+}
+
+/// A refusal, whole as it is written.
+pub fn plain_reply(out: &mut Bytes, text: &[u8]) -> Result<(), NoMemory>
+    ensures { OnOk result (out.new ≡ text.now) }
+{
+    out.clear();
+    out.extend(text)
+}
+
+/// The reply to a load that ended so.
+pub fn load_reply(out: &mut Bytes, end: LoadEnd) -> Result<(), NoMemory>
+    ensures { OnOk result (out.new ≡ load_reply end) }
+{
+    match end {
+        LoadEnd::Published(number) => {
+            out.clear();
+            out.extend(b"OK\t")?;
+            push_version(out, number)?;
+            out.extend(b"\n")
+        }
+        LoadEnd::Failed(_) => plain_reply(out, b"ERR\t7\n"),
+        LoadEnd::NoMemory => plain_reply(out, NO_MEMORY_REPLY),
+    }
+}

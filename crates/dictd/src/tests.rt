@@ -1,0 +1,338 @@
+// Runs of `once` over objects in memory.
+use crate::once::{Status, once};
+use child_io::{MemorySpawner, Script};
+use dict_io::{MemoryClock, MemoryShelf, MemorySink, MemorySource, NamedFile};
+use dict_value::{Bytes, Exit, ListOf};
+use std::alloc::{AllocError, Global};
+use std::process::Abort;
+use std::test::Fail;
+
+const ROW: &[u8] = b"CREATE DICTIONARY d (id UInt64, x String DEFAULT '') PRIMARY KEY id SOURCE(EXECUTABLE(command 'c' format 'TabSeparated')) LAYOUT(FLAT()) LIFETIME(0);";
+
+/// How a child of a case behaves.
+#[derive(Clone, Copy)]
+enum Ends {
+    With(i32),
+    Killed,
+    NotStarted,
+    /// The read of that number fails.
+    Cut(u64),
+    WaitFails,
+}
+
+#[derive(Clone, Copy)]
+struct Case {
+    words: &'static [&'static str],
+    file: &'static [u8],
+    children: &'static [(&'static [u8], Ends)],
+    input: &'static [u8],
+    failing_reads: &'static [u64],
+    room: u32,
+    want: Status,
+    out: &'static [u8],
+    err: &'static [u8],
+}
+
+/// One child with the two rows of the first case.
+const FIRST: Case = Case {
+    words: &["once", "d.sql", "1"],
+    file: ROW,
+    children: &[(b"1\ta\n2\tb\n", Ends::With(0))],
+    input: b"dictGet\td\tx\t2\n",
+    failing_reads: &[],
+    room: 1000,
+    want: Status::Done,
+    out: b"OK\tv1\tb\n",
+    err: b"",
+};
+
+fn numbers(alloc: Global, items: &[u64]) -> Result<ListOf<u64>, AllocError> {
+    Ok(ListOf::from_vec(Vec::from_slice(alloc, items)?))
+}
+
+fn script(alloc: Global, output: &[u8], ends: Ends) -> Result<Script, Fail> {
+    let failing: [u64; 1] = match ends {
+        Ends::Cut(read) => [read],
+        _ => [9],
+    };
+    Ok(Script {
+        start_fails: matches!(ends, Ends::NotStarted),
+        output: Bytes::copy_of(alloc, output)?,
+        sizes: ListOf::from_vec(Vec::from_slice(alloc, &[3])?),
+        failing_reads: numbers(alloc, &failing)?,
+        timed_out_reads: ListOf::new(alloc),
+        failing_writes: ListOf::new(alloc),
+        wait_fails: matches!(ends, Ends::WaitFails),
+        exit: match ends {
+            Ends::With(code) => Exit::Code(code),
+            _ => Exit::Killed,
+        },
+        room: 0,
+        accepted: ListOf::new(alloc),
+    })
+}
+
+fn spawner(alloc: Global, children: &[(&'static [u8], Ends)]) -> Result<MemorySpawner, Fail> {
+    let mut scripts = ListOf::new(alloc);
+    for (output, ends) in children {
+        scripts.push(script(alloc, output, *ends)?)?;
+    }
+    Ok(MemorySpawner::new(alloc, scripts))
+}
+
+fn shelf(alloc: Global, file: &[u8]) -> Result<MemoryShelf, Fail> {
+    let mut files = ListOf::new(alloc);
+    files.push(NamedFile {
+        name: Bytes::copy_of(alloc, b"d.sql")?,
+        text: Bytes::copy_of(alloc, file)?,
+    })?;
+    Ok(MemoryShelf::new(alloc, files, ListOf::new(alloc)))
+}
+
+fn strings(alloc: Global, texts: &[&'static str]) -> Result<Vec<String>, AllocError> {
+    let mut words = Vec::new(alloc);
+    for text in texts {
+        words.push(String::from_str(alloc, text)?)?;
+    }
+    Ok(words)
+}
+
+fn check(rt: &impl Abort, alloc: Global, case: &Case) -> Result<(), Fail> {
+    let words = strings(alloc, case.words)?;
+    let mut shelf = shelf(alloc, case.file)?;
+    let mut spawner = spawner(alloc, case.children)?;
+    let mut clock = MemoryClock::new(ListOf::from_vec(Vec::from_array(alloc, [100u64])?));
+    let left = Bytes::copy_of(alloc, case.input)?;
+    let sizes = ListOf::from_vec(Vec::from_array(alloc, [20u32])?);
+    let mut input = MemorySource::new(left, sizes, numbers(alloc, case.failing_reads)?);
+    let mut out = MemorySink::new(alloc, case.room, ListOf::new(alloc))?;
+    let mut err = MemorySink::new(alloc, 12, ListOf::new(alloc))?;
+    let status = once(
+        alloc,
+        words.as_slice(),
+        &mut shelf,
+        &mut spawner,
+        &mut clock,
+        &mut input,
+        &mut out,
+        &mut err,
+    );
+    assert_eq!(rt; status, case.want);
+    assert!(rt; out.written().as_slice() == case.out);
+    assert!(rt; err.written().as_slice() == case.err);
+    Ok(())
+}
+
+
+#[test]
+fn lookups_are_answered_from_the_child(rt: HostRuntime) -> Result<(), Fail> {
+    let cases = [
+        FIRST,
+        Case {
+            input: b"dictGet\td\tx\t9",
+            out: b"OK\tv1\t\n",
+            ..FIRST
+        },
+        Case {
+            input: b"dictGet\td\tx\tq\n\ndictGet\td\ty\t1\ndictGet\te\tx\t1\nquit\ndictGet\td\tx\t01\n",
+            out: b"ERR\t1\nERR\t1\nERR\t1\nERR\t1\nERR\t1\nOK\tv1\ta\n",
+            ..FIRST
+        },
+        Case {
+            input: b"dictGet\td\tx\t000000000000000000001\ndictGet\td\tx\t18446744073709551616\ndictGet\td\tx\t18446744073709551615\n",
+            out: b"ERR\t1\nERR\t1\nOK\tv1\t\n",
+            ..FIRST
+        },
+        Case {
+            children: &[(b"7\tfirst\n7\tsecond\n499999\tlast\n", Ends::With(0))],
+            input: b"dictGet\td\tx\t7\ndictGet\td\tx\t499999\n",
+            out: b"OK\tv1\tfirst\nOK\tv1\tlast\n",
+            ..FIRST
+        },
+    ];
+    for case in &cases {
+        check(&rt, rt.alloc(), case)?;
+    }
+    Ok(())
+}
+
+#[test]
+fn a_child_that_gives_no_table_leaves_nothing_loaded(rt: HostRuntime) -> Result<(), Fail> {
+    let children: [&'static [(&'static [u8], Ends)]; 11] = [
+        &[],
+        &[(b"1\ta\n2\tb\n", Ends::With(1))],
+        &[(b"1\ta\n2\tb\n", Ends::Killed)],
+        &[(b"1\ta\n2\tb\n", Ends::NotStarted)],
+        &[(b"1\ta\n2\tb\n", Ends::Cut(1))],
+        &[(b"1\ta\n2\tb\n", Ends::WaitFails)],
+        &[(b"1\ta\tb\n2\tb\n", Ends::With(0))],
+        &[(b"1\ta\r\n2\tb\n", Ends::With(0))],
+        &[(b"1\ta\\n\n2\tb\n", Ends::With(0))],
+        &[(b"1\ta\n2\tb", Ends::With(0))],
+        &[(b"000000000000000000002\tb\n", Ends::With(0))],
+    ];
+    for children in &children {
+        let case = Case {
+            children,
+            out: b"ERR\t5\n",
+            ..FIRST
+        };
+        check(&rt, rt.alloc(), &case)?;
+    }
+    let large = Case {
+        children: &[(b"500000\ta\n2\tb\n", Ends::With(0))],
+        out: b"ERR\t5\n",
+        ..FIRST
+    };
+    check(&rt, rt.alloc(), &large)
+}
+
+#[test]
+fn reloads_publish_or_leave_the_version(rt: HostRuntime) -> Result<(), Fail> {
+    let reload = Case {
+        input: b"reload\td\ndictGet\td\tx\t1\ndictGet\td\tx\t2\n",
+        ..FIRST
+    };
+    let kept = Case {
+        out: b"ERR\t7\nOK\tv1\ta\nOK\tv1\tb\n",
+        ..reload
+    };
+    let cases = [
+        Case {
+            children: &[(b"1\ta\n2\tb\n", Ends::With(0)), (b"1\tc\n", Ends::With(0))],
+            out: b"OK\tv2\nOK\tv2\tc\nOK\tv2\t\n",
+            ..reload
+        },
+        Case {
+            children: &[(b"1\ta\n2\tb\n", Ends::With(0)), (b"1\tc\n", Ends::With(3))],
+            ..kept
+        },
+        Case {
+            children: &[(b"1\ta\n2\tb\n", Ends::With(0)), (b"1\tc\n", Ends::Cut(1))],
+            ..kept
+        },
+        Case {
+            children: &[(b"1\ta\n2\tb\n", Ends::With(0)), (b"1\tc\n", Ends::NotStarted)],
+            ..kept
+        },
+        Case {
+            children: &[(b"x", Ends::With(0)), (b"y", Ends::With(0))],
+            out: b"ERR\t7\nERR\t5\nERR\t5\n",
+            ..reload
+        },
+        Case {
+            input: b"reload\tx\nreload\td\t\n",
+            out: b"ERR\t1\nERR\t1\n",
+            ..FIRST
+        },
+    ];
+    for case in &cases {
+        check(&rt, rt.alloc(), case)?;
+    }
+    Ok(())
+}
+
+#[test]
+fn runs_end_with_their_status(rt: HostRuntime) -> Result<(), Fail> {
+    let usage = Case {
+        want: Status::Usage,
+        out: b"",
+        err: b"usage: dictd",
+        ..FIRST
+    };
+    let refused = Case {
+        want: Status::DefsRefused,
+        out: b"",
+        err: b"definitions ",
+        ..FIRST
+    };
+    let cases = [
+        Case { words: &[], ..usage },
+        Case { words: &["once", "d.sql"], ..usage },
+        Case { words: &["once", "d.sql", "x"], ..usage },
+        Case { words: &["serve", "d.sql", "1"], ..usage },
+        Case { words: &["demo", "4", "1"], ..usage },
+        Case {
+            words: &["once", "e.sql", "1"],
+            want: Status::DefsUnread,
+            out: b"",
+            err: b"cannot read ",
+            ..FIRST
+        },
+        Case { file: b"", ..refused },
+        Case { file: b"CREATE DICTIONARY d (id Float64)", ..refused },
+        Case {
+            failing_reads: &[1],
+            input: b"dictGet\td\tx\t1\ndictGet\td\tx\t2\n",
+            want: Status::ReadFault,
+            out: b"OK\tv1\ta\n",
+            err: b"read failed\n",
+            ..FIRST
+        },
+        Case {
+            room: 5,
+            want: Status::WriteFault,
+            out: b"OK\tv1",
+            err: b"write failed",
+            ..FIRST
+        },
+    ];
+    for case in &cases {
+        check(&rt, rt.alloc(), case)?;
+    }
+    Ok(())
+}
+
+#[test]
+fn long_texts_have_their_own_status(rt: HostRuntime) -> Result<(), Fail> {
+    let alloc = rt.alloc();
+    let long = Vec::from_elem(alloc, b'a', 65537)?;
+    let mut shelf_of_row = shelf(alloc, ROW)?;
+    let mut children = spawner(alloc, FIRST.children)?;
+    let mut clock = MemoryClock::new(ListOf::from_vec(Vec::from_array(alloc, [100u64])?));
+    let mut input = MemorySource::new(Bytes::from_vec(long), ListOf::new(alloc), ListOf::new(alloc));
+    let mut out = MemorySink::new(alloc, 100, ListOf::new(alloc))?;
+    let mut err = MemorySink::new(alloc, 100, ListOf::new(alloc))?;
+    let words = strings(alloc, FIRST.words)?;
+    let status = once(
+        alloc,
+        words.as_slice(),
+        &mut shelf_of_row,
+        &mut children,
+        &mut clock,
+        &mut input,
+        &mut out,
+        &mut err,
+    );
+    assert_eq!(rt; status, Status::LineTooLong);
+    assert!(rt; out.written().as_slice() == b"ERR\t13\n".as_slice());
+    assert!(rt; err.written().as_slice() == b"line too long\n".as_slice());
+    Ok(())
+}
+
+#[test]
+fn a_long_definitions_file_is_refused(rt: HostRuntime) -> Result<(), Fail> {
+    let alloc = rt.alloc();
+    let long = Vec::from_elem(alloc, b' ', 4194305)?;
+    let mut shelf_of_spaces = shelf(alloc, long.as_slice())?;
+    let mut children = spawner(alloc, FIRST.children)?;
+    let mut clock = MemoryClock::new(ListOf::from_vec(Vec::from_array(alloc, [100u64])?));
+    let mut input = MemorySource::new(Bytes::new(alloc), ListOf::new(alloc), ListOf::new(alloc));
+    let mut out = MemorySink::new(alloc, 100, ListOf::new(alloc))?;
+    let mut err = MemorySink::new(alloc, 100, ListOf::new(alloc))?;
+    let words = strings(alloc, FIRST.words)?;
+    let status = once(
+        alloc,
+        words.as_slice(),
+        &mut shelf_of_spaces,
+        &mut children,
+        &mut clock,
+        &mut input,
+        &mut out,
+        &mut err,
+    );
+    assert_eq!(rt; status, Status::DefsTooLong);
+    assert!(rt; out.written().is_empty());
+    assert!(rt; err.written().as_slice() == b"definitions too long\n".as_slice());
+    Ok(())
+}

@@ -1,0 +1,20 @@
+-- What a caller's floor becomes by a number that it comes to know.
+use Rattle.std.specs.Prelude.{ℕ, max, nat_lt, if◌then◌else◌}
+use Rattle.load_core.specs.declared.caller.CallerCore.{CallerCore}
+use Rattle.load_core.specs.declared.caller.CallerEvent.{CallerEvent}
+use Rattle.load_core.specs.declared.caller.CallerEvent.TheVariants.{Entered, Told}
+use Rattle.load_core.specs.declared.caller.CallerEffect.{CallerEffect}
+use Rattle.load_core.specs.declared.caller.CallerEffect.TheVariants.{Kept, Older}
+
+-- the number that an event brings
+abbrev pub number_of : CallerEvent → ℕ
+number_of (Entered number) = number
+number_of (Told number) = number
+
+-- the floor is the greater of itself and the number
+abbrev pub raised : CallerCore → CallerEvent → CallerCore
+raised c event = record { floor = max c.floor (number_of event) }
+
+-- how the number stands to the floor before it
+abbrev pub effect_of : CallerCore → CallerEvent → CallerEffect
+effect_of c event = if nat_lt (number_of event) c.floor then Older c.floor else Kept

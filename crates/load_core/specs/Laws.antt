@@ -1,0 +1,201 @@
+-- What holds of every world that a list of events leads to.
+use Rattle.std.specs.Prelude.{◌≡◌, ◌≢◌, ℕ, ◌+◌, ◌≤◌, ◌&&◌, List, [], ◌∷◌, ◌++◌, length, map, Option, Some, None, pos, nat_eq, nat_le, if◌then◌else◌, slice_get, All}
+use Rattle.std.specs.List.{range_with_len}
+use Rattle.std.specs.List.Sorted.{IsNonDecreasing, IsStrictlyIncreasing}
+use Rattle.dict_value.specs.declared.fault.Cause.{Cause}
+use Rattle.dict_value.specs.declared.fault.Exit.TheVariants.{Code}
+use Rattle.load_core.specs.declared.caller.CallerEffect.TheVariants.{Kept}
+use Rattle.load_core.specs.declared.caller.CallerEvent.TheVariants.{Entered}
+use Rattle.load_core.specs.declared.dictionary.DictEffect.TheVariants as effect
+use Rattle.load_core.specs.declared.dictionary.Ending.TheVariants.{Failed}
+use Rattle.load_core.specs.declared.dictionary.LastCause.{LastCause}
+use Rattle.load_core.specs.declared.dictionary.LastCause.TheVariants as last
+use Rattle.load_core.specs.declared.dictionary.Phase.{Phase}
+use Rattle.load_core.specs.declared.dictionary.Phase.TheVariants.{Idle, Reading, Ready, ToPost}
+use Rattle.load_core.specs.declared.world.Ended.{Ended}
+use Rattle.load_core.specs.declared.world.Ended.TheVariants.{Whole}
+use Rattle.load_core.specs.declared.world.WorldEvent.{WorldEvent}
+use Rattle.load_core.specs.declared.world.WorldEvent.TheVariants.{Start, Piece, Finish, Publish, Enter, Learn}
+use Rattle.load_core.specs.declared.world.WorldEntry.{WorldEntry}
+use Rattle.load_core.specs.declared.world.WorldDict.{WorldDict}
+use Rattle.load_core.specs.declared.world.WorldCaller.{WorldCaller}
+use Rattle.load_core.specs.declared.world.World.{World}
+use Rattle.load_core.specs.CallerSteps.{effect_of}
+use Rattle.load_core.specs.WorldSteps.{Verdicts, Finishes, Answers, Step, Run, dict_at, caller_at, last_number, empty_world}
+
+-- the entries of the dictionary at a place, which are none where there is no dictionary
+abbrev pub entries_in : Option WorldDict → List WorldEntry
+entries_in None = []
+entries_in (Some x) = x.entries
+
+abbrev pub entries_of : World → ℕ → List WorldEntry
+entries_of w d = entries_in (dict_at w d)
+
+-- the number that the dictionary at a place posted last
+abbrev pub posted_in : Option WorldDict → ℕ
+posted_in None = 0
+posted_in (Some x) = x.posted
+
+abbrev pub posted_of : World → ℕ → ℕ
+posted_of w d = posted_in (dict_at w d)
+
+-- why the last load that ended of the dictionary at a place failed
+abbrev pub cause_in : Option WorldDict → LastCause
+cause_in None = last.None
+cause_in (Some x) = x.core.cause
+
+abbrev pub cause_of : World → ℕ → LastCause
+cause_of w d = cause_in (dict_at w d)
+
+-- the answers of a caller for the dictionary at a place
+abbrev pub answers_in : Option WorldCaller → List ℕ
+answers_in None = []
+answers_in (Some u) = u.answers
+
+abbrev pub answers_of : World → ℕ → ℕ → List ℕ
+answers_of w c d = answers_in (caller_at w c d)
+
+abbrev pub IsPrefixOf : {A : Type 0} → List A → List A → Type 0
+IsPrefixOf {A} xs ys = (rest : List A) × (ys ≡ xs ++ rest)
+
+-- one in the phases in which a load runs that hasn't ended
+abbrev pub running : Phase → ℕ
+running Idle = 0
+running Reading = 1
+running Ready = 1
+running ToPost = 0
+
+-- what the pieces of a dictionary join to, after what was taken before; one that would bring it above the bound is left out
+abbrev pub with_piece : ℕ → List ℕ → WorldEvent → List ℕ
+with_piece d bytes (Piece e piece) =
+    if nat_eq e d && nat_le (length bytes + length piece) 4294967295 then bytes ++ piece else bytes
+with_piece d bytes _ = bytes
+
+abbrev pub joined : ℕ → List ℕ → List WorldEvent → List ℕ
+joined d bytes [] = bytes
+joined d bytes (event ∷ events) = joined d (with_piece d bytes event) events
+
+-- the event isn't the end of a child of dictionary d; it isn't a Publish of d
+abbrev pub IsNoFinish : ℕ → WorldEvent → Type 0
+IsNoFinish d (Finish e ended) = e ≢ d
+IsNoFinish d _ = Unit {0}
+
+abbrev pub IsNoPublish : ℕ → WorldEvent → Type 0
+IsNoPublish d (Publish e) = e ≢ d
+IsNoPublish d _ = Unit {0}
+
+-- The entry of dictionary d is of one load in this run. The load's Start was answered with the load's number. The
+-- pieces from there to its one Finish, of a child with status 0, join to the entry's bytes, which the judge accepts.
+-- Its one Publish was answered with the entry's number.
+pub record IsOfOneLoad (judges : Verdicts) (first : World) (events : List WorldEvent) (now : World) (d : ℕ) (entry : WorldEntry) : Type 0 where
+  pub earlier : List WorldEvent
+  pub reading : List WorldEvent
+  pub ready : List WorldEvent
+  pub later : List WorldEvent
+  pub idle : World
+  pub begun : World
+  pub read : World
+  pub finished : World
+  pub unpublished : World
+  pub published : World
+  pub order : events
+      ≡ earlier ++ Start d ∷ reading ++ Finish d (Whole (Code (pos 0))) ∷ ready ++ Publish d ∷ later
+  pub before : Run judges first earlier idle
+  pub start : Answers judges idle d (Start d) (effect.Begun entry.load) begun
+  pub pieces : Run judges begun reading read
+  pub one_finish : All (IsNoFinish d) reading
+  pub bytes : entry.bytes ≡ joined d [] reading
+  pub finish : Answers judges read d (Finish d (Whole (Code (pos 0)))) effect.Ready finished
+  pub accepted : judges d entry.bytes None
+  pub waiting : Run judges finished ready unpublished
+  pub one_publish : All (IsNoPublish d) ready
+  pub publish : Answers judges unpublished d (Publish d) (effect.Published entry.number) published
+  pub after : Run judges published later now
+
+-- The k-th answer of a caller, from 0, was given at one Enter in this run: it is the length that the list then had.
+pub record IsLengthAtEnter (judges : Verdicts) (first : World) (events : List WorldEvent) (now : World) (c d k answer : ℕ) : Type 0 where
+  pub earlier : List WorldEvent
+  pub later : List WorldEvent
+  pub unshown : World
+  pub shown : World
+  pub order : events ≡ earlier ++ Enter c d ∷ later
+  pub before : Run judges first earlier unshown
+  pub enter : Step judges unshown (Enter c d) shown
+  pub place : k ≡ length (answers_of unshown c d)
+  pub is_length : answer ≡ length (entries_of unshown d)
+  pub after : Run judges shown later now
+
+-- in each world that events lead to from the empty one, each dictionary is so
+abbrev pub EachDict : Verdicts → (WorldDict → Type 0) → Type 0
+EachDict judges P =
+    (dictionaries callers : ℕ) (events : List WorldEvent) (now : World) → Run judges (empty_world dictionaries callers) events now → All P now.dictionaries
+
+-- the n-th entry has the number n
+abbrev pub IsNumbered : WorldDict → Type 0
+IsNumbered x = map (λ e. e.number) x.entries ≡ range_with_len 1 (length x.entries)
+
+-- load numbers rise along the list
+abbrev pub IsRising : WorldDict → Type 0
+IsRising x = IsStrictlyIncreasing (map (λ e. e.load) x.entries)
+
+-- each load that began published an entry, failed, or runs
+abbrev pub IsCounted : WorldDict → Type 0
+IsCounted x = (x.core.oks ≡ length x.entries) × (x.core.loads ≡ x.core.oks + x.core.fails + running x.core.phase)
+
+-- what was posted was published
+abbrev pub IsPosted : WorldDict → Type 0
+IsPosted x = x.posted ≤ length x.entries
+
+-- what later events add to a list leaves its front
+abbrev pub Grows : Verdicts → Type 0
+Grows judges =
+    (dictionaries callers : ℕ) (early late : List WorldEvent) (mid now : World) →
+    Run judges (empty_world dictionaries callers) early mid → Run judges mid late now →
+    (d : ℕ) → IsPrefixOf (entries_of mid d) (entries_of now d)
+
+-- each entry is of one load of the run
+abbrev pub OneLoadEach : Verdicts → Type 0
+OneLoadEach judges =
+    (dictionaries callers : ℕ) (events : List WorldEvent) (now : World) → Run judges (empty_world dictionaries callers) events now →
+    (d : ℕ) → All (IsOfOneLoad judges (empty_world dictionaries callers) events now d) (entries_of now d)
+
+-- a Finish that is answered Failing leaves the list, and its cause is the last one
+abbrev pub FailingKeeps : Verdicts → Type 0
+FailingKeeps judges =
+    (old new : World) (d : ℕ) (ended : Ended) → (a : Answers judges old d (Finish d ended) effect.Failing new) →
+    (why : Cause) × Finishes judges a.before.definition a.before.bytes ended (Failed why) × (cause_of new d ≡ last.Of why) × (entries_of new d ≡ entries_of old d)
+
+-- a Publish that is answered Published clears the cause
+abbrev pub PublishedClears : Verdicts → Type 0
+PublishedClears judges =
+    (old new : World) (d number : ℕ) → Answers judges old d (Publish d) (effect.Published number) new → cause_of new d ≡ last.None
+
+-- an event that is answered Refused changes nothing
+abbrev pub RefusedKeeps : Verdicts → Type 0
+RefusedKeeps judges =
+    (old new : World) (d : ℕ) (event : WorldEvent) → Answers judges old d event effect.Refused new → new ≡ old
+
+-- each answer of a caller is the length of the list at its Enter
+abbrev pub LengthsAtEnter : Verdicts → Type 0
+LengthsAtEnter judges =
+    (dictionaries callers : ℕ) (events : List WorldEvent) (now : World) → Run judges (empty_world dictionaries callers) events now →
+    (c d k answer : ℕ) → slice_get (answers_of now c d) k ≡ Some answer → IsLengthAtEnter judges (empty_world dictionaries callers) events now c d k answer
+
+-- the answers of a caller for one dictionary never fall
+abbrev pub NeverFall : Verdicts → Type 0
+NeverFall judges =
+    (dictionaries callers : ℕ) (events : List WorldEvent) (now : World) → Run judges (empty_world dictionaries callers) events now →
+    (c d : ℕ) → IsNonDecreasing (answers_of now c d)
+
+-- an Enter is never older than what the caller knows
+abbrev pub NeverOlder : Verdicts → Type 0
+NeverOlder judges =
+    (dictionaries callers : ℕ) (events : List WorldEvent) (now : World) → Run judges (empty_world dictionaries callers) events now →
+    (c d : ℕ) (u : WorldCaller) (x : WorldDict) → caller_at now c d ≡ Some u → dict_at now d ≡ Some x → effect_of u.core (Entered (last_number x.entries)) ≡ Kept
+
+-- what a caller is answered after it learnt a number isn't below that number
+abbrev pub NeverBelowLearnt : Verdicts → Type 0
+NeverBelowLearnt judges =
+    (dictionaries callers c d : ℕ) (early late : List WorldEvent) (untold told now : World) →
+    Run judges (empty_world dictionaries callers) early untold → Step judges untold (Learn c d) told → Run judges told late now →
+    (later : List ℕ) × (answers_of now c d ≡ answers_of told c d ++ later) × All (λ answer. posted_of untold d ≤ answer) later

@@ -1,0 +1,171 @@
+-- What may happen to a world of dictionaries and callers.
+use Rattle.std.specs.Prelude.{◌≡◌, ℕ, zero, ◌+◌, ◌⊎◌, List, [], ◌∷◌, ◌++◌, length, map, replicate, Option, Some, None, pos, nat_le, if◌then◌else◌, slice_get, slice_set, unwrap_or}
+use Rattle.std.specs.List.{range_with_len}
+use Rattle.dict_value.specs.declared.fault.Cause.{Cause}
+use Rattle.dict_value.specs.declared.fault.Cause.TheVariants as cause
+use Rattle.dict_value.specs.declared.fault.Exit.TheVariants.{Code, Killed}
+use Rattle.load_core.specs.declared.dictionary.DictEvent.{DictEvent}
+use Rattle.load_core.specs.declared.dictionary.DictEvent.TheVariants as core
+use Rattle.load_core.specs.declared.dictionary.DictEffect.{DictEffect}
+use Rattle.load_core.specs.declared.dictionary.DictEffect.TheVariants as effect
+use Rattle.load_core.specs.declared.dictionary.Ending.{Ending}
+use Rattle.load_core.specs.declared.dictionary.Ending.TheVariants.{Rows, Failed}
+use Rattle.load_core.specs.declared.caller.CallerEvent.{CallerEvent}
+use Rattle.load_core.specs.declared.caller.CallerEvent.TheVariants.{Entered, Told}
+use Rattle.load_core.specs.declared.world.Ended.{Ended}
+use Rattle.load_core.specs.declared.world.Ended.TheVariants.{Whole, Broken, TimedOut, TooLong, NotStarted, NoMemory}
+use Rattle.load_core.specs.declared.world.WorldEvent.{WorldEvent}
+use Rattle.load_core.specs.declared.world.WorldEvent.TheVariants.{Start, Piece, Finish, Publish, Post, Enter, Learn}
+use Rattle.load_core.specs.declared.world.WorldEntry.{WorldEntry}
+use Rattle.load_core.specs.declared.world.WorldDict.{WorldDict}
+use Rattle.load_core.specs.declared.world.WorldCaller.{WorldCaller}
+use Rattle.load_core.specs.declared.world.World.{World}
+use Rattle.load_core.specs.CallerSteps.{raised}
+use Rattle.load_core.specs.DictSteps.{empty_core, stepped}
+
+-- what a judge says of a definition's number and a text: accepted, or refused with a cause
+abbrev pub Verdicts : Type 1
+Verdicts = ℕ → List ℕ → Option Cause → Type 0
+
+-- how a load finishes whose whole output was read and whose child ended with status 0
+abbrev pub Judged : Verdicts → ℕ → List ℕ → Ending → Type 0
+Judged judges number text Rows = judges number text None
+Judged judges number text (Failed why) = judges number text (Some why)
+
+-- how a load finishes, by how its child ended
+abbrev pub Finishes : Verdicts → ℕ → List ℕ → Ended → Ending → Type 0
+Finishes judges number text NotStarted ending = ending ≡ Failed cause.Start
+Finishes judges number text Broken ending = ending ≡ Failed cause.Read
+Finishes judges number text TimedOut ending = ending ≡ Failed cause.TimedOut
+Finishes judges number text (TooLong limit) ending = ending ≡ Failed (cause.Longer limit)
+Finishes judges number text (Whole (Code (pos zero))) ending = Judged judges number text ending
+Finishes judges number text (Whole (Code status)) ending = ending ≡ Failed (cause.Status status)
+Finishes judges number text (Whole Killed) ending = ending ≡ Failed cause.Killed
+Finishes judges number text NoMemory ending = ending ≡ Failed cause.NoMemory
+
+-- how many bytes a piece counts: one that would bring them above the bound is as an empty one
+abbrev pub counted : List ℕ → List ℕ → ℕ
+counted bytes piece = if nat_le (length bytes + length piece) 4294967295 then length piece else 0
+
+-- what a dictionary keeps beside its core, by the core's answer
+abbrev pub kept : WorldDict → List ℕ → DictEffect → WorldDict
+kept x piece (effect.Begun load) = record x { bytes = [] }
+kept x piece effect.Taken = record x { bytes = x.bytes ++ piece }
+kept x piece (effect.Published number) =
+    record x { entries = x.entries ++ record { number = number; bytes = x.bytes; load = x.core.loads } ∷ [] }
+kept x piece effect.Posted = record x { posted = length x.entries }
+kept x piece _ = x
+
+-- a dictionary after an event of its core, which may bring a piece
+abbrev pub dict_after : WorldDict → DictEvent → List ℕ → WorldDict
+dict_after x event piece =
+    record (kept x piece (stepped x.core event).effect) { core = (stepped x.core event).core }
+
+-- the core takes this event, answers so, and leaves the dictionary so
+pub record Takes (x : WorldDict) (event : DictEvent) (piece : List ℕ) (answer : DictEffect) (y : WorldDict) : Type 0 where
+  pub answers : answer ≡ (stepped x.core event).effect
+  pub leaves : y ≡ dict_after x event piece
+
+-- what an event of the world makes of its dictionary x, and how x's core answers
+abbrev pub DictStep : Verdicts → WorldDict → WorldEvent → DictEffect → WorldDict → Type 0
+DictStep judges x (Start d) answer y = Takes x core.Start [] answer y
+DictStep judges x (Piece d piece) answer y = Takes x (core.Piece (counted x.bytes piece)) piece answer y
+DictStep judges x (Finish d ended) answer y =
+    (ending : Ending) × Finishes judges x.definition x.bytes ended ending × Takes x (core.Finish ending) [] answer y
+DictStep judges x (Publish d) answer y = Takes x core.Publish [] answer y
+DictStep judges x (Post d) answer y = Takes x core.Post [] answer y
+-- the others aren't events of a dictionary
+DictStep judges x (Enter c d) answer y = ⊥
+DictStep judges x (Learn c d) answer y = ⊥
+
+-- the dictionary at a place, and the world with another one there
+abbrev pub dict_at : World → ℕ → Option WorldDict
+dict_at w d = slice_get w.dictionaries d
+
+abbrev pub with_dict : World → ℕ → WorldDict → World
+with_dict w d x = record w { dictionaries = slice_set w.dictionaries d x }
+
+-- all that a caller knows, and what it knows of the dictionary at a place
+abbrev pub known_to : World → ℕ → List WorldCaller
+known_to w c = unwrap_or (slice_get w.callers c) []
+
+abbrev pub caller_at : World → ℕ → ℕ → Option WorldCaller
+caller_at w c d = slice_get (known_to w c) d
+
+abbrev pub with_caller : World → ℕ → ℕ → WorldCaller → World
+with_caller w c d u = record w { callers = slice_set w.callers c (slice_set (known_to w c) d u) }
+
+-- The dictionary at this place takes the event, and its core answers so. All else stays.
+pub record Answers (judges : Verdicts) (old : World) (d : ℕ) (event : WorldEvent) (answer : DictEffect) (new : World) : Type 0 where
+  pub before : WorldDict
+  pub after : WorldDict
+  pub found : dict_at old d ≡ Some before
+  pub step : DictStep judges before event answer after
+  pub rest : new ≡ with_dict old d after
+
+-- the number of the last entry, or 0
+abbrev pub last_number : List WorldEntry → ℕ
+last_number [] = 0
+last_number (entry ∷ []) = entry.number
+last_number (entry ∷ entries) = last_number entries
+
+-- what a caller knows once a number came to it, which is an answer where it was shown that version
+abbrev pub knowing : WorldCaller → CallerEvent → WorldCaller
+knowing u (Entered number) = record { core = raised u.core (Entered number); answers = u.answers ++ number ∷ [] }
+knowing u (Told number) = record u { core = raised u.core (Told number) }
+
+-- once it is shown the last entry of a dictionary; once it is told the number posted
+abbrev pub entered : WorldCaller → WorldDict → WorldCaller
+entered u x = knowing u (Entered (last_number x.entries))
+
+abbrev pub learnt : WorldCaller → WorldDict → WorldCaller
+learnt u x = knowing u (Told x.posted)
+
+-- What the caller knows of the dictionary at this place becomes that. All else stays.
+pub record Informs (old : World) (c d : ℕ) (becomes : WorldCaller → WorldDict → WorldCaller) (new : World) : Type 0 where
+  pub caller : WorldCaller
+  pub dictionary : WorldDict
+  pub found_caller : caller_at old c d ≡ Some caller
+  pub found : dict_at old d ≡ Some dictionary
+  pub rest : new ≡ with_caller old c d (becomes caller dictionary)
+
+-- an event of the dictionary at a place; where there is none, nothing changes
+abbrev pub DictEvents : Verdicts → World → ℕ → WorldEvent → World → Type 0
+DictEvents judges old d event new =
+    ((answer : DictEffect) × Answers judges old d event answer new) ⊎ ((dict_at old d ≡ None) × (new ≡ old))
+
+-- an event of a caller and the dictionary at a place; where one of them isn't there, nothing changes
+abbrev pub CallerEvents : World → ℕ → ℕ → (WorldCaller → WorldDict → WorldCaller) → World → Type 0
+CallerEvents old c d becomes new =
+    Informs old c d becomes new ⊎ (((caller_at old c d ≡ None) ⊎ (dict_at old d ≡ None)) × (new ≡ old))
+
+-- from old, the event may lead to new
+abbrev pub Step : Verdicts → World → WorldEvent → World → Type 0
+Step judges old (Start d) new = DictEvents judges old d (Start d) new
+Step judges old (Piece d piece) new = DictEvents judges old d (Piece d piece) new
+Step judges old (Finish d ended) new = DictEvents judges old d (Finish d ended) new
+Step judges old (Publish d) new = DictEvents judges old d (Publish d) new
+Step judges old (Post d) new = DictEvents judges old d (Post d) new
+Step judges old (Enter c d) new = CallerEvents old c d entered new
+Step judges old (Learn c d) new = CallerEvents old c d learnt new
+
+-- from old, the events may lead to new, one after another
+abbrev pub Run : Verdicts → World → List WorldEvent → World → Type 0
+Run judges old [] new = new ≡ old
+Run judges old (event ∷ events) new = (mid : World) × Step judges old event mid × Run judges mid events new
+
+-- a dictionary that has published nothing, with the definition of this number
+abbrev pub empty_dict : ℕ → WorldDict
+empty_dict number = record { definition = number; bytes = []; entries = []; posted = 0; core = empty_core }
+
+-- a caller that knows of no version
+abbrev pub empty_caller : WorldCaller
+empty_caller = record { core = record { floor = 0 }; answers = [] }
+
+-- nothing has happened
+abbrev pub empty_world : ℕ → ℕ → World
+empty_world dictionaries callers =
+    record {
+      dictionaries = map empty_dict (range_with_len 0 dictionaries);
+      callers = replicate callers (replicate dictionaries empty_caller);
+    }

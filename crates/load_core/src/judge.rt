@@ -1,0 +1,20 @@
+// Who says whether the output of a load has rows.
+ghost use Rattle.std.specs.Prelude.{ℕ, List};
+ghost use Rattle.load_core.specs.WorldSteps.{Verdicts};
+
+/// Says of a definition's number and a text whether the text is accepted, or with which cause it
+/// isn't. Only contracts ask a judge.
+pub trait Judge {
+    /// Holds where the text may be accepted (no cause), or refused with the cause.
+    ghost judges: { Verdicts };
+}
+
+/// The strict form of rows, for a definition of any number.
+#[derive(Clone, Copy, Debug)]
+pub struct StrictJudge;
+
+impl Judge for StrictJudge {
+    ghost use Rattle.load_core.specs.StrictVerdicts.{strict_verdicts};
+
+    ghost judges = { strict_verdicts };
+}

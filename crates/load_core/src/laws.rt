@@ -1,0 +1,23 @@
+// What holds over every list of events.
+ghost use Rattle.load_core.specs.Laws.{EachDict, Grows, IsNumbered, IsRising, IsCounted, IsPosted, OneLoadEach, FailingKeeps, PublishedClears, RefusedKeeps, LengthsAtEnter, NeverFall, NeverOlder, NeverBelowLearnt};
+
+use crate::judge::Judge;
+
+/// For every number of dictionaries and callers, every judge and every list of events from the
+/// empty world: lists only grow, by entries of whole loads that the judge accepts, and no caller
+/// goes back.
+pub fn core_law<J: Judge>()
+    ensures grows { Grows J.judges }
+    ensures numbers { EachDict J.judges IsNumbered }
+    ensures one_load_each { OneLoadEach J.judges }
+    ensures loads_rise { EachDict J.judges IsRising }
+    ensures failing { FailingKeeps J.judges }
+    ensures published { PublishedClears J.judges }
+    ensures refused { RefusedKeeps J.judges }
+    ensures counts { EachDict J.judges IsCounted }
+    ensures posted { EachDict J.judges IsPosted }
+    ensures at_enter { LengthsAtEnter J.judges }
+    ensures never_fall { NeverFall J.judges }
+    ensures never_older { NeverOlder J.judges }
+    ensures never_below { NeverBelowLearnt J.judges }
+{}

@@ -1,0 +1,22 @@
+//! The pure machine of loads, publications and callers, which every thread of the server moves by.
+//!
+//! It promises that a core steps by its table, that an event which its phase doesn't take is
+//! answered Refused and changes nothing, that no step takes memory, that a world runs by the steps
+//! of its cores, and, of every list of events and every judge of outputs, the law in [`laws`]:
+//! lists only grow, by entries of whole loads that the judge accepts, and no caller goes back.
+#![tactic(auto)]
+
+pub mod caller;
+pub mod dictionary;
+pub mod judge;
+pub mod laws;
+pub mod strict;
+#[cfg(test)]
+mod tests;
+pub mod world;
+
+pub use caller::{CallerCore, CallerEffect, CallerEvent};
+pub use dictionary::{DictCore, DictEffect, DictEvent, Ending, LastCause, MOST_LOADS, Phase};
+pub use judge::{Judge, StrictJudge};
+pub use strict::{TableFault, TextRow, read_table};
+pub use world::{Ended, World, WorldCaller, WorldDict, WorldEntry, WorldEvent};
