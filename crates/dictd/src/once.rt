@@ -4,7 +4,7 @@ ghost use Rattle.dict_io.specs.Outside.{HasCause, Rose};
 ghost use Rattle.child_io.specs.Words.{source_words};
 ghost use Rattle.dictd.specs.Asked.{IsRequestsOf};
 ghost use Rattle.dictd.specs.declared.thin.ThinDefinition.{ThinDefinition};
-ghost use Rattle.dictd.specs.OneRun.{OnceRun, Tells, status_text, ReadsDefinition, ServesRun};
+ghost use Rattle.dictd.specs.OneRun.{OnceRun, Tells, status_text, status_after, ReadsDefinition, ServesRun};
 
 use crate::input::{InputEnd, read_input};
 use crate::load::{ChildWords, Dictionary};
@@ -12,10 +12,11 @@ use crate::session::{Requests, serve_input};
 use crate::thin::{ThinDefinition, ThinFault, read_thin};
 use crate::words::once_file;
 use child_io::{Spawner, folder_of, words_of};
-use dict_io::{Clock, Shelf, ShelfFault, Sink, Source, write_all};
+use dict_io::{Clock, Failed, Shelf, ShelfFault, Sink, Source, write_all};
 use dict_value::{Bytes, ListOf};
 use std::alloc::Global;
 use std::marker::Brand;
+use version_slot::Publisher;
 
 /// The greatest number of bytes of a definitions file.
 pub const MOST_DEFINITIONS: u32 = 4_194_304;
@@ -95,14 +96,14 @@ fn serve<S: Spawner, W: ChildWords, I: Source, O: Sink>(
     requires { words ≡ W.words }
     ensures reads { HasCause (I.read_faults input.old) (I.read_faults input.new) (result ≡ Status.ReadFault) }
     ensures writes { HasCause (O.write_faults out.old) (O.write_faults out.new) (result ≡ Status.WriteFault) }
-    ensures run { (d : ThinDefinition) → IsRequestsOf d requests.now → ServesRun d (record { scripts = S.scripts spawner.old; left = I.left input.old; written = O.written out.old }) (record { scripts = S.scripts spawner.new; left = I.left input.new; written = O.written out.new }) result }
+    ensures run { (d : ThinDefinition) → IsRequestsOf d requests.now → ServesRun d S.ran W.words (record { scripts = S.scripts spawner.old; left = I.left input.old; written = O.written out.old }) (record { scripts = S.scripts spawner.new; left = I.left input.new; written = O.written out.new }) result }
 {
     let mut dictionary = Dictionary::<S, W>::new(alloc, words);
     dictionary.load(alloc, spawner);
     let Ok(asked) = read_input(alloc, input) else {
         return Status::NoMemory;
     };
-    match serve_input(
+    let served = serve_input(
         alloc,
         requests,
         &mut dictionary,
@@ -110,13 +111,20 @@ fn serve<S: Spawner, W: ChildWords, I: Source, O: Sink>(
         out,
         &asked,
         reply,
-    ) {
-        Ok(()) => match asked.end {
-            InputEnd::Ended => Status::Done,
-            InputEnd::Failed => Status::ReadFault,
-            InputEnd::TooLong => Status::LineTooLong,
-        },
-        Err(_) => Status::WriteFault,
+    );
+    let _published = dictionary.versions.number();
+    status_of(served, asked.end)
+}
+
+/// The status of an input that ended so and was served so.
+fn status_of(served: Result<(), Failed>, end: InputEnd) -> Status
+    ensures { result ≡ status_after served end }
+{
+    match (served, end) {
+        (Ok(()), InputEnd::Ended) => Status::Done,
+        (Ok(()), InputEnd::Failed) => Status::ReadFault,
+        (Ok(()), InputEnd::TooLong) => Status::LineTooLong,
+        (Err(_), _) => Status::WriteFault,
     }
 }
 
@@ -133,7 +141,7 @@ fn run<F: Shelf, S: Spawner, C: Clock, I: Source, O: Sink>(
     ensures shelf { HasCause (F.shelf_faults shelf.old) (F.shelf_faults shelf.new) (result ≡ Status.DefsUnread) }
     ensures reads { HasCause (I.read_faults input.old) (I.read_faults input.new) (result ≡ Status.ReadFault) }
     ensures writes { HasCause (O.write_faults out.old) (O.write_faults out.new) (result ≡ Status.WriteFault) }
-    ensures run { OnceRun (map string_bytes words.now) (F.file shelf.old) (record { scripts = S.scripts spawner.old; left = I.left input.old; written = O.written out.old }) (record { scripts = S.scripts spawner.new; left = I.left input.new; written = O.written out.new }) result }
+    ensures run { OnceRun (map string_bytes words.now) (F.file shelf.old) S.ran (record { scripts = S.scripts spawner.old; left = I.left input.old; written = O.written out.old }) (record { scripts = S.scripts spawner.new; left = I.left input.new; written = O.written out.new }) result }
 {
     let Some(name) = once_file(words) else {
         return Status::Usage;
@@ -180,7 +188,7 @@ pub fn once<F: Shelf, S: Spawner, C: Clock, I: Source, O: Sink, E: Sink>(
     ensures shelf { HasCause (F.shelf_faults shelf.old) (F.shelf_faults shelf.new) (result ≡ Status.DefsUnread) }
     ensures reads { HasCause (I.read_faults input.old) (I.read_faults input.new) (result ≡ Status.ReadFault) }
     ensures writes { HasCause (O.write_faults out.old) (O.write_faults out.new) (result ≡ Status.WriteFault) }
-    ensures run { OnceRun (map string_bytes words.now) (F.file shelf.old) (record { scripts = S.scripts spawner.old; left = I.left input.old; written = O.written out.old }) (record { scripts = S.scripts spawner.new; left = I.left input.new; written = O.written out.new }) result }
+    ensures run { OnceRun (map string_bytes words.now) (F.file shelf.old) S.ran (record { scripts = S.scripts spawner.old; left = I.left input.old; written = O.written out.old }) (record { scripts = S.scripts spawner.new; left = I.left input.new; written = O.written out.new }) result }
     ensures told { Tells (E.written err.old) (E.written err.new) (status_text result) (Rose (E.write_faults err.old) (E.write_faults err.new)) }
 {
     let status = run(alloc, words, shelf, spawner, clock, input, out);
