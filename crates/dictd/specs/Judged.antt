@@ -1,4 +1,4 @@
--- What a child's output and end are judged to give.
+-- What a child's output and end are judged to give. Private calls alone cite it.
 use Rattle.std.specs.Prelude.{◌≡◌, ℕ, List, [], ◌∷◌, ◌++◌, false, ⊤, Option, Result, Ok, Err, length, pos}
 use Rattle.dict_value.specs.declared.fault.Exit.TheVariants.{Code}
 use Rattle.child_io.specs.declared.pieces.Gathered.{Gathered}

@@ -20,10 +20,11 @@ use Rattle.load_core.specs.StrictRows.{IsTable, IsRefusedFor}
 use Rattle.dictd.specs.declared.ending.LoadEnd.{LoadEnd}
 use Rattle.dictd.specs.declared.ending.LoadEnd.TheVariants.{Published, Failed, NoMemory}
 
--- the greatest number of bytes that one run may print, and of loads
+-- the greatest number of bytes that one run may print
 abbrev pub most_output : ℕ
 most_output = 67108864
 
+-- the greatest number of loads
 abbrev pub most_loads : ℕ
 most_loads = 9223372036854775807
 

@@ -144,7 +144,7 @@ OnceRun words file ran before after Usage = ((name : List ℕ) → IsOnce words 
 OnceRun words file ran before after DefsUnread = ((name : List ℕ) × IsOnce words name) × (after ≡ before)
 OnceRun words file ran before after DefsRefused = IsRefusedFile words file × (after ≡ before)
 OnceRun words file ran before after DefsTooLong = ((name : List ℕ) × IsOnce words name × IsLongFile (file name)) × (after ≡ before)
-OnceRun words file ran before after NoMemory = ((name : List ℕ) × IsOnce words name) × (after.written ≡ before.written) × StartsOnce before after
+OnceRun words file ran before after NoMemory = (((name : List ℕ) × IsOnce words name) × (after ≡ before)) ⊎ RunsFile words file ran before after NoMemory
 
 -- the text that a status is told by
 abbrev pub status_text : Status → List ℕ

@@ -114,16 +114,18 @@ fn read_child<S: Spawner>(
     alloc: Global,
     spawner: &mut S,
     words: &[Bytes],
-    core: DictCore,
+    core: &mut DictCore,
 ) -> Result<ListOf<TextRow>, TableFault>
-    requires { core.phase ≡ Reading }
+    requires { core.old.phase ≡ Reading }
+    ensures core { core.new ≡ core.old }
     ensures read { ReadsChild (S.scripts spawner.old) (S.scripts spawner.new) S.ran words.now result }
 {
     let mut taken = LoadPieces {
-        core,
+        core: *core,
         gathered: Gathered::new(alloc),
     };
     let end = run_pieces(spawner, words, MOST_OUTPUT, READ_MS, &mut taken);
+    *core = taken.core;
     judge(alloc, &taken.gathered, end)
 }
 
@@ -212,7 +214,7 @@ impl<S: Spawner, W: ChildWords> Dictionary<S, W> {
             DictEffect::Begun(_) => {}
             _ => return LoadEnd::Failed(Cause::Spent),
         }
-        let read = read_child(alloc, spawner, self.words.as_slice(), core);
+        let read = read_child(alloc, spawner, self.words.as_slice(), &mut core);
         let end = finish::<S, W>(alloc, &mut core, &mut self.versions, read);
         self.core = core;
         end
