@@ -1,5 +1,5 @@
 // What a definitions file defines.
-use dict_value::{AttrType, Bytes, ListOf, Value};
+use dict_value::{AttrType, Bytes, Format, ListOf, Value};
 
 /// A column of a dictionary.
 #[derive(Debug, Drop)]
@@ -46,13 +46,6 @@ pub enum Layout {
     ComplexDirect,
 }
 
-/// The format of a child's output.
-#[derive(Clone, Copy, Debug, PartialEq, Eq)]
-pub enum Format {
-    Tab,
-    Csv,
-}
-
 /// One child for each run, or a pool of children.
 #[derive(Clone, Copy, Debug, PartialEq, Eq)]
 pub enum Kind {
@@ -65,6 +58,7 @@ pub enum Kind {
 pub struct SourceOf {
     pub kind: Kind,
     pub command: Bytes,
+    /// The text form of its output.
     pub format: Format,
     /// The command's words are run as they are, without a shell.
     pub direct: bool,
@@ -129,3 +123,24 @@ pub enum Item {
     Dictionary(Definition),
     Function(FunctionDef),
 }
+
+/// What a column is for: a key, an end of a range, or what is asked for.
+#[derive(Clone, Copy, Debug, PartialEq, Eq)]
+pub enum Role {
+    Key,
+    Start,
+    End,
+    Attribute,
+}
+
+/// A column of a row as a child prints it.
+#[derive(Debug, Drop)]
+pub struct ShapeColumn {
+    pub ty: AttrType,
+    pub role: Role,
+    /// What stands in an attribute that isn't nullable where the row has NULL.
+    pub default: Value,
+}
+
+/// The columns of a row, in their order.
+pub type Shape = ListOf<ShapeColumn>;

@@ -6,6 +6,7 @@
 pub mod definition;
 
 pub use definition::{
-    Arg, CacheSet, Column, Definition, Format, FunctionDef, Item, Kind, Layout, Lifetime, RangeOf,
-    SourceOf, Strategy,
+    Arg, CacheSet, Column, Definition, FunctionDef, Item, Kind, Layout, Lifetime, RangeOf, Role,
+    Shape, ShapeColumn, SourceOf, Strategy,
 };
+pub use dict_value::Format;

@@ -6,6 +6,7 @@ pub mod DigitTexts
 pub mod Digits
 pub mod LastDigits
 pub mod Places
+pub mod ReadTypes
 pub mod Shown
 pub mod WrittenAddresses
 pub mod WrittenBytes

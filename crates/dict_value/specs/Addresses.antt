@@ -55,7 +55,7 @@ length_in most text =
     if not (slice_index text 0 == 48) || (length text == 1)
     then option_and_then (λ n. if nat_le n most then Some n else None) (number_in text) else None
 
--- the first bits of a number of `width` bits, so many of them: the others are cleared
+-- a number of `width` bits with all but its first `count` bits cleared
 abbrev pub first_bits : ℕ → ℕ → ℕ → ℕ
 first_bits width count n = n / 2 ^ (width - count) * 2 ^ (width - count)
 

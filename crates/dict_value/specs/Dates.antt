@@ -102,8 +102,8 @@ second_in text = option_or (plain_second_in text) (civil_second_in text)
 abbrev pub second_of : List ℕ → Result ℕ BadValue
 second_of text = given (second_in text) BadDate (from_zero_below (2 ^ 32))
 
--- The day with this number: from 1970 on as many years have ended as the next one has begun by then, and so
--- with the months of its year.
+-- The day with this number. Its year is 1970 and one more for each year, 1971 to 2170, whose first day is not after
+-- it; its month is January and one more for each later month of that year whose first day is not after it.
 abbrev pub year_of_day : ℕ → ℕ
 year_of_day n =
     1970 + count_by (λ k. int_le (days_from_civil (pos (1971 + k)) 1 1) (pos n)) (range_with_len 0 200)

@@ -37,7 +37,7 @@ below bound n = if nat_lt n bound then Ok n else Err OutOfRange
 abbrev pub unsigned_of : ℕ → List ℕ → Result ℕ BadValue
 unsigned_of bits text = given (unsigned_in text) NotANumber (below (2 ^ bits))
 
--- a number from minus the bound on and below it
+-- whether a number is from minus the bound to the bound, the latter excluded; negsuc n is -(n + 1)
 abbrev pub is_within : ℕ → ℤ → Bool
 is_within bound (pos n) = nat_lt n bound
 is_within bound (negsuc n) = nat_lt n bound

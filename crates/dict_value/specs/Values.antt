@@ -44,10 +44,15 @@ abbrev pub reading : AttrType → Field → Result Value BadValue
 reading t field.Null = if t.nullable then Ok Null else Err NullNotAllowed
 reading t (field.Text text) = text_reading t.base text
 
--- r is the reading, or at a String that no memory was found
-abbrev pub Gives : ColType → Result Value BadValue → Result Value BadValue → Type 0
-Gives type.Str (Err NoMemory) read = Unit {0}
-Gives t r read = r ≡ read
+-- r is the reading of the text, or at a String that no memory was found
+abbrev pub GivesText : ColType → List ℕ → Result Value BadValue → Type 0
+GivesText type.Str text (Err NoMemory) = Unit {0}
+GivesText t text r = r ≡ text_reading t text
+
+-- the same of a field; NULL takes no memory
+abbrev pub Gives : AttrType → Field → Result Value BadValue → Type 0
+Gives t field.Null r = r ≡ reading t field.Null
+Gives t (field.Text text) r = GivesText t.base text r
 
 -- a value of a type, Null aside
 abbrev pub HasType : ColType → Value → Type 0

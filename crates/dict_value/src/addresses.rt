@@ -1,6 +1,6 @@
 // Addresses and prefixes.
-ghost use Rattle.std.specs.Prelude.{◌≡◌, ◌↔◌, ◌≤◌, ◌-◌, ◌%◌, ◌^◌, OnErr, IfOk, IfSome, Ok};
-ghost use Rattle.dict_value.specs.Addresses.{IsAddress, IsPrefix, v4_in, v6_in, v4_of, v6_of, address_in, length_in, prefix_len_in, prefix_in, prefix_of, width_of, first_bits};
+ghost use Rattle.std.specs.Prelude.{◌≡◌, ◌↔◌, ◌≤◌, ◌-◌, ◌%◌, ◌^◌, ℕ, List, OnErr, IfOk, IfSome, Ok, Some};
+ghost use Rattle.dict_value.specs.Addresses.{IsAddress, IsV4, IsV6, IsPrefix, v4_in, v6_in, v4_of, v6_of, address_in, length_in, prefix_len_in, prefix_in, prefix_of, width_of, first_bits};
 ghost use Rattle.dict_value.specs.Numbers.{given};
 ghost use Rattle.dict_value.specs.declared.value.Address.{Address};
 ghost use Rattle.dict_value.specs.declared.value.BadValue.TheVariants.{BadAddress};
@@ -65,6 +65,14 @@ fn address_in(text: &[u8]) -> Option<Address>
         None => None,
     }
 }
+
+/// A text is read as an address exactly where it writes it, in four octets or in eight groups. The
+/// types IPv4 and IPv6, addresses and prefixes all read by these three.
+pub fn addresses_by_grammar()
+    ensures v4 { (text : List ℕ) (n : ℕ) → (v4_in text ≡ Some n) ↔ IsV4 text n }
+    ensures v6 { (text : List ℕ) (n : ℕ) → (v6_in text ≡ Some n) ↔ IsV6 text n }
+    ensures either { (text : List ℕ) (a : Address) → (address_in text ≡ Some a) ↔ IsAddress text a }
+{}
 
 /// The address of either family that a text writes.
 pub fn read_address(text: &[u8]) -> Result<Address, BadValue>

@@ -43,7 +43,7 @@ impl<L: Ledger> Steps<L> {
 }
 
 /// A list of items that are read one by one, each for a step.
-#[derive(Debug, Drop)]
+#[derive(Drop)]
 pub struct Counted<T> {
     items: ListOf<T>,
 }

@@ -24,16 +24,16 @@ mod tests;
 pub mod value;
 mod writing;
 
-pub use addresses::{read_address, read_prefix};
+pub use addresses::{addresses_by_grammar, read_address, read_prefix};
 pub use bytes::Bytes;
 pub use counted::{Counted, Steps};
 pub use digit_text::read_digits;
 pub use fault::{BadRow, BlockFault, CallFault, Cause, Exit, FetchFault, LineFault, NoMemory, Why};
 pub use list::ListOf;
-pub use reading::{default_of, read_value, written_is_read};
+pub use reading::{default_of, read_is_typed, read_text, read_value, written_is_read};
 pub use split::split_at_byte;
 pub use value::{
-    Address, AttrType, BadValue, ColType, Fetched, FetchedRow, Field, Fields, KeyList, MaybeRow,
-    Prefix, Row, Rows, Value, same_value,
+    Address, AttrType, BadValue, ColType, Fetched, FetchedRow, Field, Fields, Format, KeyList,
+    MaybeRow, Prefix, Row, Rows, Value, copy_value, same_value,
 };
 pub use writing::write_value;

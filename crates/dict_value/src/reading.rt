@@ -1,6 +1,6 @@
 // A value from a field, and the value that stands where none is given.
-ghost use Rattle.std.specs.Prelude.{◌≡◌, IfOk, Ok};
-ghost use Rattle.dict_value.specs.Values.{reading, text_reading, as_value, Gives, default_value, default_of_column, FitsColumn, HasType, text_of};
+ghost use Rattle.std.specs.Prelude.{◌≡◌, ℕ, List, IfOk, Ok};
+ghost use Rattle.dict_value.specs.Values.{text_reading, as_value, Gives, GivesText, default_value, default_of_column, FitsColumn, HasType, text_of};
 ghost use Rattle.dict_value.specs.declared.value.ColType.{ColType};
 ghost use Rattle.dict_value.specs.declared.value.Value.{Value};
 ghost use Rattle.dict_value.specs.declared.value.Value.TheVariants.{S};
@@ -17,7 +17,7 @@ use std::alloc::Global;
 /// The value of a field; only a String takes memory.
 pub fn read_value(alloc: Global, t: &AttrType, field: &Field) -> Result<Value, BadValue>
     // The reading or its fault, unless no memory was found for a String.
-    ensures exact { Gives t.now.base result (reading t.now field.now) }
+    ensures exact { Gives t.now field.now result }
     ensures fits { IfOk result (FitsColumn t.now) }
 {
     match field {
@@ -27,9 +27,11 @@ pub fn read_value(alloc: Global, t: &AttrType, field: &Field) -> Result<Value, B
     }
 }
 
+/// The value that a text has at a type; only a String takes memory.
 #[tactic(auto, unfolding(crate::specs::Values::text_reading))]
-fn read_text(alloc: Global, base: ColType, text: &[u8]) -> Result<Value, BadValue>
-    ensures exact { Gives base result (text_reading base text.now) }
+pub fn read_text(alloc: Global, base: ColType, text: &[u8]) -> Result<Value, BadValue>
+    // The reading or its fault, unless no memory was found for a String.
+    ensures exact { GivesText base text.now result }
     ensures fits { IfOk result (HasType base) }
 {
     match base {
@@ -57,6 +59,11 @@ fn read_text(alloc: Global, base: ColType, text: &[u8]) -> Result<Value, BadValu
 /// What is written of a value is read as that value, for every value of every type.
 pub fn written_is_read()
     ensures { (t : ColType) (v : Value) → HasType t v → text_reading t (text_of t v) ≡ Ok v }
+{}
+
+/// What a text is read as is a value of the type, for every text and type.
+pub fn read_is_typed()
+    ensures { (t : ColType) (text : List ℕ) (v : Value) → text_reading t text ≡ Ok v → HasType t v }
 {}
 
 /// What stands where no value is given: Null where it is allowed, and else 0 or the empty string.

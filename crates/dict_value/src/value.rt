@@ -1,8 +1,10 @@
 // Types, values, fields and rows, as plain data.
-ghost use Rattle.std.specs.Prelude.{◌≡◌, ◌↔◌, IsTrue};
+ghost use Rattle.std.specs.Prelude.{◌≡◌, ◌↔◌, IfOk, IsTrue};
 
 use crate::bytes::Bytes;
+use crate::fault::NoMemory;
 use crate::list::ListOf;
+use std::alloc::Global;
 
 /// The type of a column, NULL aside.
 #[derive(Clone, Copy, Debug, PartialEq, Eq)]
@@ -69,11 +71,36 @@ pub fn same_value(a: &Value, b: &Value) -> bool
     }
 }
 
+/// The same value once more; only a String takes memory.
+pub fn copy_value(alloc: Global, value: &Value) -> Result<Value, NoMemory>
+    ensures { IfOk result (λ copy. copy ≡ value.now) }
+{
+    Ok(match value {
+        Value::Null => Value::Null,
+        Value::U(n) => Value::U(*n),
+        Value::I(n) => Value::I(*n),
+        Value::S(text) => Value::S(Bytes::copy_of(alloc, text.as_slice())?),
+        Value::Day(n) => Value::Day(*n),
+        Value::Second(n) => Value::Second(*n),
+        Value::Id(n) => Value::Id(*n),
+        Value::V4(n) => Value::V4(*n),
+        Value::V6(n) => Value::V6(*n),
+        Value::Dec(n) => Value::Dec(*n),
+    })
+}
+
 /// A field of a row's text.
 #[derive(Debug, Drop)]
 pub enum Field {
     Null,
     Text(Bytes),
+}
+
+/// The text form of rows: fields by tab with escapes, or by comma with quotes.
+#[derive(Clone, Copy, Debug, PartialEq, Eq)]
+pub enum Format {
+    Tab,
+    Csv,
 }
 
 /// Why a field is no value of its type.

@@ -12,12 +12,12 @@ use Rattle.load_core.specs.DictSteps.{stepped, row, refused, Stepped}
 use Rattle.std.proofs.lemmas.Bool.Decides.{nat_tests}
 use Rattle.std.specs.Prelude.{if◌then◌else◌}
 use Rattle.dictd.specs.Loads.{most_loads}
-use Rattle.load_core.specs.declared.strict.TableFault.{TableFault}
-use Rattle.load_core.specs.declared.strict.TableFault.TheVariants.{Refused, NoMemory}
-use Rattle.load_core.specs.declared.strict.TextRow.{TextRow}
+use Rattle.load_core.specs.declared.flat.TableFault.{TableFault}
+use Rattle.load_core.specs.declared.flat.TableFault.TheVariants.{Refused, NoMemory}
 use Rattle.dictd.specs.declared.ending.LoadEnd.{LoadEnd}
 use Rattle.dictd.specs.declared.ending.LoadEnd.TheVariants.{Published, Failed, NoMemory as EndNoMemory}
 use Rattle.dictd.specs.Loads.{core_after, end_events, EndsLoad, State, Runs}
+use Rattle.dictd.specs.ThinRows.{Table}
 use Rattle.dictd.specs.Judged.{ReadsChild, IsRead, FinishesAs}
 
 pub core_after-append : (core : DictCore) (first second : List DictEvent) → core_after core (first ++ second) ≡ core_after (core_after core first) second
@@ -47,7 +47,7 @@ pieces-keep core [] reading = refl
 pieces-keep core (piece ∷ pieces) reading = ap (λ c. core_after c (map (λ p. Piece (length p)) pieces)) (piece-keeps core (length piece) reading) ∙ pieces-keep core pieces reading
 
 -- what was read and how the load ended by it
-pub ends-load : (ran : List (List ℕ) → List ℕ → Exit → Type 0) (words : List (List ℕ)) (output : List ℕ) (ending : PieceEnd) (read : Result (List TextRow) TableFault) (end : LoadEnd) (old new : List (List TextRow)) → IsRead ran words output ending read → FinishesAs old read end new → EndsLoad output ending end old new
+pub ends-load : (ran : List (List ℕ) → List ℕ → Exit → Type 0) (words : List (List ℕ)) (output : List ℕ) (ending : PieceEnd) (read : Result (Table) TableFault) (end : LoadEnd) (old new : List Table) → IsRead ran words output ending read → FinishesAs old read end new → EndsLoad output ending end old new
 ends-load ran words output ending (Ok rows) (Published number) old new given finished = (given.0, (rows, given.2, finished.0, finished.1))
 ends-load ran words output ending (Ok rows) (Failed cause) old new given finished = absurd finished
 ends-load ran words output ending (Ok rows) EndNoMemory old new given finished = finished
@@ -58,7 +58,7 @@ ends-load ran words output ending (Err NoMemory) end old new given finished =
     let P : LoadEnd → Type 0 = λ e. EndsLoad output ending e old new in
     subst P (sym finished.0) finished.1
 
-pub runs : (ran : List (List ℕ) → List ℕ → Exit → Type 0) (words : List (List ℕ)) (old new : State) (read : Result (List TextRow) TableFault) (end : LoadEnd) → (stepped old.core Start).core.phase ≡ Reading → ReadsChild old.scripts new.scripts ran words read → FinishesAs old.versions read end new.versions → new.core ≡ core_after (stepped old.core Start).core (end_events end) → Runs old end new
+pub runs : (ran : List (List ℕ) → List ℕ → Exit → Type 0) (words : List (List ℕ)) (old new : State) (read : Result (Table) TableFault) (end : LoadEnd) → (stepped old.core Start).core.phase ≡ Reading → ReadsChild old.scripts new.scripts ran words read → FinishesAs old.versions read end new.versions → new.core ≡ core_after (stepped old.core Start).core (end_events end) → Runs old end new
 runs ran words old new read end reading r finished core = record {
   pieces = r.pieces;
   ending = r.ending;

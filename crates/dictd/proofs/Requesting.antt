@@ -3,14 +3,14 @@ use Rattle.std.proofs.Common.{◌≡◌, ℕ, List, [], ◌∷◌, ◌++◌, ref
 use Rattle.std.specs.Str.Parse.{digits_value}
 use Rattle.dict_value.specs.Digits.{IsDigits}
 use Rattle.dict_value.specs.declared.fault.NoMemory.{NoMemory as OutOfMemory}
-use Rattle.load_core.specs.declared.strict.TextRow.{TextRow}
 use Rattle.version_slot.specs.Views.{entry}
 use Rattle.dictd.specs.declared.ending.LoadEnd.{LoadEnd}
 use Rattle.dictd.specs.declared.session.Requests.{Requests}
 use Rattle.dictd.specs.declared.thin.ThinDefinition.{ThinDefinition}
 use Rattle.dictd.specs.Asked.{IsRequestsOf}
 use Rattle.dictd.specs.Loads.{State, Loads}
-use Rattle.dictd.specs.Requests.{AsksFor, AsksToLoad, IsValue, Loaded, refusal, version_name, text_at, load_reply}
+use Rattle.dictd.specs.Requests.{AsksFor, AsksToLoad, IsValue, Loaded, refusal, version_name, value_text, load_reply}
+use Rattle.dictd.specs.ThinRows.{Table}
 use Rattle.dictd.specs.Sessions.{Value, Load, Unread, NoMemory, Says}
 use Rattle.dictd.proofs.Fields.{behind-once}
 
@@ -39,9 +39,9 @@ pub key-none : (d : ThinDefinition) (requests : Requests) (line : List ℕ) → 
 key-none d requests line is none key a = none a.digits (asks-digits d requests line key is a)
 
 -- the value of a key in what was seen
-pub value-seen : (versions : List (List TextRow)) (key number : ℕ) (rows : List TextRow) (version : Option (List TextRow)) (reply : List ℕ) → number ≡ length versions → version ≡ entry versions (length versions) → version ≡ Some rows
-    → reply ≡ codes "OK" ++ 9 ∷ (version_name number ++ 9 ∷ (text_at rows key ++ 10 ∷ [])) → IsValue versions key reply
-value-seen versions key number rows version reply n v some e = Loaded rows (sym v ∙ some) (e ∙ ap (λ z. codes "OK" ++ 9 ∷ (version_name z ++ 9 ∷ (text_at rows key ++ 10 ∷ []))) n)
+pub value-seen : (versions : List Table) (key number : ℕ) (rows : Table) (version : Option (Table)) (reply : List ℕ) → number ≡ length versions → version ≡ entry versions (length versions) → version ≡ Some rows
+    → reply ≡ codes "OK" ++ 9 ∷ (version_name number ++ 9 ∷ (value_text rows key ++ 10 ∷ [])) → IsValue versions key reply
+value-seen versions key number rows version reply n v some e = Loaded rows (sym v ∙ some) (e ∙ ap (λ z. codes "OK" ++ 9 ∷ (version_name z ++ 9 ∷ (value_text rows key ++ 10 ∷ []))) n)
 
 -- what is said of a load
 pub says-load : (d : ThinDefinition) (old new : State) (line reply : List ℕ) (end : LoadEnd) (said : Result (Unit {0}) OutOfMemory) → AsksToLoad d line → Loads old end new → OnOk said (reply ≡ load_reply end) → Says d old line said reply new

@@ -3,7 +3,6 @@ use Rattle.std.proofs.Common.{◌≡◌, ℕ, List, [], Option, Result, Ok, Err,
 use Rattle.std.proofs.Math.Seq.{take-length}
 use Rattle.std.specs.Io.KnownBytes.{append_known, prepend_known}
 use Rattle.load_core.specs.declared.dictionary.DictCore.{DictCore}
-use Rattle.load_core.specs.declared.strict.TextRow.{TextRow}
 use Rattle.dict_io.specs.Outside.{WritesPrefix}
 use Rattle.dict_io.specs.declared.outside.Failed.{Failed as WriteFailed}
 use Rattle.load_core.specs.DictSteps.{empty_core}
@@ -13,13 +12,14 @@ use Rattle.dictd.specs.declared.input.InputEnd.{InputEnd}
 use Rattle.dictd.specs.declared.input.InputEnd.TheVariants.{Ended, Failed, TooLong}
 use Rattle.dictd.specs.Inputs.{EndsInput, IsTextOf}
 use Rattle.dictd.specs.Loads.{State, Loads}
+use Rattle.dictd.specs.ThinRows.{Table}
 use Rattle.dictd.specs.Sessions.{Serves, ServesFront, ServesInput}
 use Rattle.dictd.specs.OneRun.{Outside, Ran, HaveOrigin, RunsTo, RunsToFront, ServesRun, status_after, Tells}
 
 -- the load of a dictionary that was just made
-pub first-load : (versions : List (List TextRow)) (core : DictCore) (before : Outside) (first : LoadEnd) (loaded : State) → versions ≡ [] → core ≡ empty_core → Loads (record { versions = versions; core = core; scripts = before.scripts }) first loaded → Loads (record { versions = []; core = empty_core; scripts = before.scripts }) first loaded
+pub first-load : (versions : List Table) (core : DictCore) (before : Outside) (first : LoadEnd) (loaded : State) → versions ≡ [] → core ≡ empty_core → Loads (record { versions = versions; core = core; scripts = before.scripts }) first loaded → Loads (record { versions = []; core = empty_core; scripts = before.scripts }) first loaded
 first-load versions core before first loaded v c load =
-    let P : List (List TextRow) → Type 0 = λ z. Loads (record { versions = z; core = empty_core; scripts = before.scripts }) first loaded in
+    let P : List Table → Type 0 = λ z. Loads (record { versions = z; core = empty_core; scripts = before.scripts }) first loaded in
     let Q : DictCore → Type 0 = λ z. Loads (record { versions = versions; core = z; scripts = before.scripts }) first loaded in
     subst P v (subst Q c load)
 

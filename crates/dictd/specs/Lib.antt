@@ -6,4 +6,5 @@ pub mod Loads
 pub mod OneRun
 pub mod Requests
 pub mod Sessions
+pub mod ThinRows
 pub mod ThinText

@@ -15,8 +15,7 @@ use Rattle.load_core.specs.declared.dictionary.DictEvent.TheVariants.{Start, Pie
 use Rattle.load_core.specs.declared.dictionary.Ending.TheVariants.{Rows, Failed as EndFailed}
 use Rattle.load_core.specs.declared.dictionary.Phase.TheVariants.{Idle}
 use Rattle.load_core.specs.DictSteps.{stepped}
-use Rattle.load_core.specs.declared.strict.TextRow.{TextRow}
-use Rattle.load_core.specs.StrictRows.{IsTable, IsRefusedFor}
+use Rattle.dictd.specs.ThinRows.{IsRefused, IsTableOf, Table}
 use Rattle.dictd.specs.declared.ending.LoadEnd.{LoadEnd}
 use Rattle.dictd.specs.declared.ending.LoadEnd.TheVariants.{Published, Failed, NoMemory}
 
@@ -31,7 +30,7 @@ most_loads = 9223372036854775807
 -- why a child that was read to its end gives no rows
 abbrev pub IsExitCause : List ℕ → Exit → Cause → Type 0
 IsExitCause output Killed cause = cause ≡ WasKilled
-IsExitCause output (Code number) cause = (number ≡ pos 0 → IsRefusedFor output cause) × (number ≢ pos 0 → cause ≡ Status number)
+IsExitCause output (Code number) cause = (number ≡ pos 0 → IsRefused output cause) × (number ≢ pos 0 → cause ≡ Status number)
 
 -- why a child gives no rows that ended so and printed this: the first cause that is met
 abbrev pub IsCause : List ℕ → PieceEnd → Cause → Type 0
@@ -43,8 +42,8 @@ IsCause output (Ended exit) cause = IsExitCause output exit cause
 IsCause output NoMemoryFound cause = ⊥
 
 -- a version is the table of the whole output of one child that ended with status 0; a load that fails leaves the list, and want of memory may end any load so
-abbrev pub EndsLoad : List ℕ → PieceEnd → LoadEnd → List (List TextRow) → List (List TextRow) → Type 0
-EndsLoad output ending (Published number) old new = (ending ≡ Ended (Code (pos 0))) × ((rows : List TextRow) × IsTable output rows × (new ≡ old ++ rows ∷ []) × (number ≡ length new))
+abbrev pub EndsLoad : List ℕ → PieceEnd → LoadEnd → List Table → List Table → Type 0
+EndsLoad output ending (Published number) old new = (ending ≡ Ended (Code (pos 0))) × ((rows : Table) × IsTableOf output rows × (new ≡ old ++ rows ∷ []) × (number ≡ length new))
 EndsLoad output ending (Failed cause) old new = IsCause output ending cause × (new ≡ old)
 EndsLoad output ending NoMemory old new = new ≡ old
 
@@ -65,7 +64,7 @@ load_events pieces end = Start ∷ (map (λ piece. Piece (length piece)) pieces 
 
 -- what stands of a dictionary: its versions, its core, and the scripts that come, where they are told
 pub record State : Type 0 where
-  pub versions : List (List TextRow)
+  pub versions : List Table
   pub core : DictCore
   pub scripts : Option (List Script)
 
@@ -82,11 +81,11 @@ abbrev pub Loads : State → LoadEnd → State → Type 0
 Loads old end new = ((old.core.loads < most_loads) × Runs old end new) ⊎ ((most_loads ≤ old.core.loads) × (end ≡ Failed Spent) × (new ≡ old))
 
 -- between loads the core counts the versions, and no more of them than loads
-pub record IsIdle (versions : List (List TextRow)) (core : DictCore) : Type 0 where
+pub record IsIdle (versions : List Table) (core : DictCore) : Type 0 where
   pub idle : core.phase ≡ Idle
   pub counted : core.published ≡ length versions
   pub fewer : core.published ≤ core.loads
 
 -- a child was started with these words, this is its whole output, it ended with status 0, and these are its rows
-abbrev pub IsOrigin : (List (List ℕ) → List ℕ → Exit → Type 0) → List (List ℕ) → List TextRow → Type 0
-IsOrigin ran words rows = (output : List ℕ) × ran words output (Code (pos 0)) × IsTable output rows
+abbrev pub IsOrigin : (List (List ℕ) → List ℕ → Exit → Type 0) → List (List ℕ) → Table → Type 0
+IsOrigin ran words rows = (output : List ℕ) × ran words output (Code (pos 0)) × IsTableOf output rows

@@ -15,7 +15,7 @@ use Rattle.dictd.specs.Inputs.{EndsInput}
 use Rattle.load_core.specs.DictSteps.{empty_core}
 use Rattle.child_io.specs.Words.{source_words, IsFolder}
 use Rattle.dict_value.specs.declared.fault.Exit.{Exit}
-use Rattle.load_core.specs.declared.strict.TextRow.{TextRow}
+use Rattle.dictd.specs.ThinRows.{Table}
 use Rattle.version_slot.specs.Views.{EachHasFact}
 use Rattle.dictd.specs.Loads.{State, Loads, IsOrigin}
 use Rattle.dictd.specs.Sessions.{Serves, ServesFront}
@@ -50,7 +50,7 @@ abbrev pub Ran : Type 1
 Ran = List (List ℕ) → List ℕ → Exit → Type 0
 
 -- each version is the table of the whole output of a child that was started with these words and ended with status 0
-abbrev pub HaveOrigin : Ran → List (List ℕ) → List (List TextRow) → Type 0
+abbrev pub HaveOrigin : Ran → List (List ℕ) → List Table → Type 0
 HaveOrigin ran words versions = EachHasFact (λ earlier rows. IsOrigin ran words rows) versions
 
 -- the run of a definition whose input ended so: the session's replies were written

@@ -1,13 +1,14 @@
 -- Requests, one line each, and their replies.
-use Rattle.std.specs.Prelude.{◌≡◌, ℕ, List, [], ◌∷◌, ◌++◌, ◌==◌, Some, codes, decimal, length, find}
+use Rattle.std.specs.Prelude.{◌≡◌, ℕ, List, [], ◌∷◌, ◌++◌, Some, codes, decimal, length}
 use Rattle.version_slot.specs.Views.{entry}
-use Rattle.std.specs.Option.{option_map_or}
 use Rattle.std.specs.Str.Parse.{digits_value}
 use Rattle.dict_value.specs.Digits.{IsDigits}
 use Rattle.dict_value.specs.Split.{Lacks}
-use Rattle.load_core.specs.declared.strict.TextRow.{TextRow}
+use Rattle.dict_value.specs.declared.value.Field.TheVariants as field
+use Rattle.row_text.specs.TabRow.{field_text}
 use Rattle.dictd.specs.declared.ending.LoadEnd.{LoadEnd}
 use Rattle.dictd.specs.declared.ending.LoadEnd.TheVariants.{Published, Failed, NoMemory}
+use Rattle.dictd.specs.ThinRows.{Table, text_at}
 use Rattle.dictd.specs.declared.thin.ThinDefinition.{ThinDefinition}
 
 -- the text is these lines, each with its line feed
@@ -33,9 +34,9 @@ pub record AsksFor (d : ThinDefinition) (line : List ℕ) (key : ℕ) : Type 0 w
 abbrev pub AsksToLoad : ThinDefinition → List ℕ → Type 0
 AsksToLoad d line = line ≡ codes "reload" ++ 9 ∷ d.name
 
--- the text of the first row with the key, or nothing
-abbrev pub text_at : List TextRow → ℕ → List ℕ
-text_at rows key = option_map_or (λ (row : TextRow). row.text) (find (λ (row : TextRow). row.key == key) rows) []
+-- a value as a reply has it: its text, escaped as a field of TabSeparated
+abbrev pub value_text : Table → ℕ → List ℕ
+value_text rows key = field_text (field.Text (text_at rows key))
 
 -- an error's reply, by its number
 abbrev pub refusal : List ℕ → List ℕ
@@ -46,10 +47,10 @@ abbrev pub version_name : ℕ → List ℕ
 version_name number = codes "v" ++ decimal number
 
 -- the value of a key in the newest version of the list, named by its number, or error 5 where there is none
-pub data IsValue (versions : List (List TextRow)) (key : ℕ) (reply : List ℕ) : Type 0 where
+pub data IsValue (versions : List Table) (key : ℕ) (reply : List ℕ) : Type 0 where
   NotLoaded : versions ≡ [] → reply ≡ refusal (codes "5") → IsValue versions key reply
-  Loaded : (rows : List TextRow) → entry versions (length versions) ≡ Some rows
-      → reply ≡ codes "OK" ++ 9 ∷ (version_name (length versions) ++ 9 ∷ (text_at rows key ++ 10 ∷ []))
+  Loaded : (rows : Table) → entry versions (length versions) ≡ Some rows
+      → reply ≡ codes "OK" ++ 9 ∷ (version_name (length versions) ++ 9 ∷ (value_text rows key ++ 10 ∷ []))
       → IsValue versions key reply
 
 -- the reply to a load

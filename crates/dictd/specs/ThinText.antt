@@ -4,7 +4,7 @@ use Rattle.std.specs.List.{AllByRecursion, flat_map}
 use Rattle.dict_value.specs.Split.{Lacks}
 use Rattle.dict_schema.specs.declared.definition.SourceOf.{SourceOf}
 use Rattle.dict_schema.specs.declared.definition.Kind.TheVariants.{Executable}
-use Rattle.dict_schema.specs.declared.definition.Format.TheVariants.{Tab}
+use Rattle.dict_value.specs.declared.value.Format.TheVariants.{Tab}
 use Rattle.dictd.specs.declared.thin.ThinDefinition.{ThinDefinition}
 use Rattle.dictd.specs.declared.thin.ThinFault.{ThinFault}
 use Rattle.dictd.specs.declared.thin.ThinFault.TheVariants.{Unsupported, NoMemory}

@@ -1,19 +1,24 @@
 // The loads of a dictionary: each starts one child, and publishes its rows or says why there are none.
-ghost use Rattle.std.specs.Prelude.{◌≡◌, ◌<◌, ◌++◌, ◌∷◌, [], ℕ, List, false, length, MatchResult};
+ghost use Rattle.std.specs.Prelude.{◌≡◌, ◌<◌, ◌≤◌, ◌∷◌, [], ℕ, List, false, length, IfOk};
 ghost use Rattle.std.specs.Result.{ForOk};
 ghost use Rattle.load_core.specs.DictSteps.{empty_core};
-ghost use Rattle.load_core.specs.declared.strict.TextRow.{TextRow};
-ghost use Rattle.load_core.specs.StrictRows.{IsTable};
+ghost use Rattle.dict_schema.specs.declared.definition.ShapeColumn.{ShapeColumn};
+ghost use Rattle.child_io.specs.declared.pieces.Gathered.{Gathered as GatheredBytes};
 ghost use Rattle.load_core.specs.declared.dictionary.Phase.TheVariants.{Reading};
 ghost use Rattle.dictd.specs.Loads.{Loads, core_after, end_events, IsOrigin, IsIdle};
 ghost use Rattle.load_core.specs.declared.dictionary.DictEvent.TheVariants.{Finish, Post};
 ghost use Rattle.load_core.specs.declared.dictionary.Ending.TheVariants.{Failed as EndFailed};
+ghost use Rattle.dictd.specs.ThinRows.{plain_column, thin_shape};
 ghost use Rattle.dictd.specs.Judged.{IsJudged, ReadsChild, PublishesAs, FinishesAs};
 
 use crate::ending::LoadEnd;
 use child_io::{Gathered, PieceEnd, Pieces, Spawner, run_pieces};
-use dict_value::{Bytes, Cause, Exit, ListOf};
-use load_core::{DictCore, DictEffect, DictEvent, Ending, TableFault, TextRow, read_table};
+use dict_schema::{Role, Shape, ShapeColumn};
+use dict_value::{
+    AttrType, Bytes, Cause, ColType, Exit, Format, ListOf, NoMemory, Rows, Value, default_of,
+};
+use load_core::{DictCore, DictEffect, DictEvent, Ending, TableFault, accept};
+use rows_typed::decode;
 use std::alloc::Global;
 use std::marker::{Brand, PhantomData};
 use version_slot::{Fact, PlainSlot, Publisher, Token};
@@ -40,7 +45,7 @@ pub struct Origin<S, W> {
     words: PhantomData<W>,
 }
 
-impl<S: Spawner, W: ChildWords> Fact<ListOf<TextRow>> for Origin<S, W> {
+impl<S: Spawner, W: ChildWords> Fact<Rows> for Origin<S, W> {
     ghost allows = { λ _ rows. IsOrigin S.ran W.words rows };
 }
 
@@ -68,8 +73,37 @@ impl Pieces for LoadPieces {
     }
 }
 
+/// A column that isn't nullable, with its type's default.
+fn column(alloc: Global, base: ColType, role: Role) -> ShapeColumn
+    ensures { result ≡ plain_column base role }
+{
+    let ty = AttrType {
+        base,
+        nullable: false,
+    };
+    let default = default_of(alloc, &ty);
+    ShapeColumn { ty, role, default }
+}
+
+/// The columns of a child's rows: the key, and the text behind it.
+pub fn row_shape(alloc: Global) -> Result<Shape, NoMemory>
+    ensures { IfOk result (λ shape. shape ≡ thin_shape) }
+{
+    let mut shape = ListOf::with_room(alloc, 2)?;
+    shape.push(column(alloc, ColType::UInt64, Role::Key))?;
+    shape.push(column(alloc, ColType::Str, Role::Attribute))?;
+    Ok(shape)
+}
+
 /// What a child gives that printed this and ended so.
-fn judge(alloc: Global, gathered: &Gathered, end: PieceEnd) -> Result<ListOf<TextRow>, TableFault>
+fn judge(
+    alloc: Global,
+    shape: &Shape,
+    gathered: &Gathered,
+    end: PieceEnd,
+) -> Result<Rows, TableFault>
+    requires shape { shape.now ≡ thin_shape }
+    requires few { gathered.now.lost ≡ false → length gathered.now.bytes ≤ 4294967295 }
     ensures { IsJudged gathered.now end result }
 {
     match end {
@@ -80,16 +114,19 @@ fn judge(alloc: Global, gathered: &Gathered, end: PieceEnd) -> Result<ListOf<Tex
         PieceEnd::WaitFailed => Err(TableFault::Refused(Cause::Read)),
         PieceEnd::NoMemory => Err(TableFault::NoMemory),
         PieceEnd::Ended(Exit::Killed) => Err(TableFault::Refused(Cause::Killed)),
-        PieceEnd::Ended(Exit::Code(number)) => judge_rows(alloc, gathered, number),
+        PieceEnd::Ended(Exit::Code(number)) => judge_rows(alloc, shape, gathered, number),
     }
 }
 
 /// The same of a child that ended with a status.
 fn judge_rows(
     alloc: Global,
+    shape: &Shape,
     gathered: &Gathered,
     status: i32,
-) -> Result<ListOf<TextRow>, TableFault>
+) -> Result<Rows, TableFault>
+    requires shape { shape.now ≡ thin_shape }
+    requires few { gathered.now.lost ≡ false → length gathered.now.bytes ≤ 4294967295 }
     ensures { IsJudged gathered.now (PieceEnd.Ended (Exit.Code status)) result }
 {
     if status != 0 {
@@ -98,7 +135,7 @@ fn judge_rows(
     if gathered.lost {
         return Err(TableFault::NoMemory);
     }
-    read_table(alloc, gathered.bytes.as_slice())
+    accept(decode(alloc, shape, Format::Tab, gathered.bytes.as_slice()))
 }
 
 /// Ends a load for a cause.
@@ -114,9 +151,11 @@ fn read_child<S: Spawner>(
     alloc: Global,
     spawner: &mut S,
     words: &[Bytes],
+    shape: &Shape,
     core: &mut DictCore,
-) -> Result<ListOf<TextRow>, TableFault>
-    requires { core.old.phase ≡ Reading }
+) -> Result<Rows, TableFault>
+    requires reading { core.old.phase ≡ Reading }
+    requires shape { shape.now ≡ thin_shape }
     ensures core { core.new ≡ core.old }
     ensures read { ReadsChild (S.scripts spawner.old) (S.scripts spawner.new) S.ran words.now result }
 {
@@ -126,15 +165,15 @@ fn read_child<S: Spawner>(
     };
     let end = run_pieces(spawner, words, MOST_OUTPUT, READ_MS, &mut taken);
     *core = taken.core;
-    judge(alloc, &taken.gathered, end)
+    judge(alloc, shape, &taken.gathered, end)
 }
 
 /// Publishes the rows of a load.
 fn publish<S: Spawner, W: ChildWords>(
     alloc: Global,
     core: &mut DictCore,
-    versions: &mut PlainSlot<ListOf<TextRow>, Origin<S, W>>,
-    rows: ListOf<TextRow>,
+    versions: &mut PlainSlot<Rows, Origin<S, W>>,
+    rows: Rows,
 ) -> LoadEnd
     requires reading { core.old.phase ≡ Reading }
     requires room { length versions.old < 9223372036854775807 }
@@ -160,8 +199,8 @@ fn publish<S: Spawner, W: ChildWords>(
 fn finish<S: Spawner, W: ChildWords>(
     alloc: Global,
     core: &mut DictCore,
-    versions: &mut PlainSlot<ListOf<TextRow>, Origin<S, W>>,
-    read: Result<ListOf<TextRow>, TableFault>,
+    versions: &mut PlainSlot<Rows, Origin<S, W>>,
+    read: Result<Rows, TableFault>,
 ) -> LoadEnd
     requires reading { core.old.phase ≡ Reading }
     requires room { length versions.old < 9223372036854775807 }
@@ -182,24 +221,28 @@ fn finish<S: Spawner, W: ChildWords>(
     }
 }
 
-/// A dictionary's versions, and what its children are started with.
+/// A dictionary's versions, what its children are started with, and the columns of their rows.
 #[derive(Drop)]
 pub struct Dictionary<S: Spawner, W: ChildWords> {
     pub words: ListOf<Bytes>,
-    pub versions: PlainSlot<ListOf<TextRow>, Origin<S, W>>,
+    pub shape: Shape,
+    pub versions: PlainSlot<Rows, Origin<S, W>>,
     pub core: DictCore,
     ghost words_are: { words ≡ W.words },
+    ghost shape_is: { shape ≡ thin_shape },
     ghost idle: { IsIdle versions core },
 }
 
 impl<S: Spawner, W: ChildWords> Dictionary<S, W> {
-    pub fn new(alloc: Global, words: ListOf<Bytes>) -> Dictionary<S, W>
-        requires { words ≡ W.words }
+    pub fn new(alloc: Global, words: ListOf<Bytes>, shape: Shape) -> Dictionary<S, W>
+        requires words { words ≡ W.words }
+        requires shape { shape ≡ thin_shape }
         ensures versions { result.versions ≡ [] }
         ensures core { result.core ≡ empty_core }
     {
         Dictionary {
             words,
+            shape,
             versions: PlainSlot::new(alloc),
             core: DictCore::new(),
         }
@@ -214,7 +257,13 @@ impl<S: Spawner, W: ChildWords> Dictionary<S, W> {
             DictEffect::Begun(_) => {}
             _ => return LoadEnd::Failed(Cause::Spent),
         }
-        let read = read_child(alloc, spawner, self.words.as_slice(), &mut core);
+        let read = read_child(
+            alloc,
+            spawner,
+            self.words.as_slice(),
+            &self.shape,
+            &mut core,
+        );
         let end = finish::<S, W>(alloc, &mut core, &mut self.versions, read);
         self.core = core;
         end

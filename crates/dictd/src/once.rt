@@ -2,17 +2,19 @@
 ghost use Rattle.std.specs.Prelude.{◌≡◌, ◌∷◌, [], ℕ, List, map, string_bytes, IsErr, IsErrOf, codes};
 ghost use Rattle.dict_io.specs.Outside.{HasCause, Rose};
 ghost use Rattle.child_io.specs.Words.{source_words};
+ghost use Rattle.dictd.specs.ThinRows.{thin_shape};
 ghost use Rattle.dictd.specs.Asked.{IsRequestsOf};
 ghost use Rattle.dictd.specs.declared.thin.ThinDefinition.{ThinDefinition};
 ghost use Rattle.dictd.specs.OneRun.{OnceRun, Tells, status_text, status_after, ReadsDefinition, ServesRun};
 
 use crate::input::{InputEnd, read_input};
-use crate::load::{ChildWords, Dictionary};
+use crate::load::{ChildWords, Dictionary, row_shape};
 use crate::session::{Requests, serve_input};
 use crate::thin::{ThinDefinition, ThinFault, read_thin};
 use crate::words::once_file;
 use child_io::{Spawner, folder_of, words_of};
 use dict_io::{Clock, Failed, Shelf, ShelfFault, Sink, Source, write_all};
+use dict_schema::Shape;
 use dict_value::{Bytes, ListOf};
 use std::alloc::Global;
 use std::marker::Brand;
@@ -88,17 +90,19 @@ fn serve<S: Spawner, W: ChildWords, I: Source, O: Sink>(
     alloc: Global,
     requests: &Requests,
     words: ListOf<Bytes>,
+    shape: Shape,
     spawner: &mut S,
     input: &mut I,
     out: &mut O,
     reply: &mut Bytes,
 ) -> Status
-    requires { words ≡ W.words }
+    requires words { words ≡ W.words }
+    requires shape { shape ≡ thin_shape }
     ensures reads { HasCause (I.read_faults input.old) (I.read_faults input.new) (result ≡ Status.ReadFault) }
     ensures writes { HasCause (O.write_faults out.old) (O.write_faults out.new) (result ≡ Status.WriteFault) }
     ensures run { (d : ThinDefinition) → IsRequestsOf d requests.now → ServesRun d S.ran W.words (record { scripts = S.scripts spawner.old; left = I.left input.old; written = O.written out.old }) (record { scripts = S.scripts spawner.new; left = I.left input.new; written = O.written out.new }) result }
 {
-    let mut dictionary = Dictionary::<S, W>::new(alloc, words);
+    let mut dictionary = Dictionary::<S, W>::new(alloc, words, shape);
     dictionary.load(alloc, spawner);
     let Ok(asked) = read_input(alloc, input) else {
         return Status::NoMemory;
@@ -160,11 +164,15 @@ fn run<F: Shelf, S: Spawner, C: Clock, I: Source, O: Sink>(
     let Ok(child_words) = words_of(alloc, &definition.source, folder) else {
         return Status::NoMemory;
     };
+    let Ok(shape) = row_shape(alloc) else {
+        return Status::NoMemory;
+    };
     clock.now();
     serve::<S, Brand, I, O>(
         alloc,
         &requests,
         child_words,
+        shape,
         spawner,
         input,
         out,

@@ -1,13 +1,13 @@
 // Replies, composed in a buffer that is used again for each of them.
 ghost use Rattle.std.specs.Prelude.{◌≡◌, ◌++◌, ◌∷◌, [], ◌==◌, IsOk, OnOk, OnErr, find, codes};
 ghost use Rattle.std.specs.Option.{option_copied};
-ghost use Rattle.load_core.specs.declared.strict.TextRow.{TextRow};
-ghost use Rattle.dictd.specs.Requests.{IsValue, refusal, version_name, load_reply, text_at};
+ghost use Rattle.dictd.specs.Requests.{IsValue, refusal, version_name, load_reply, value_text};
+ghost use Rattle.dictd.specs.ThinRows.{has_key, row_text, text_at};
 
 use crate::ending::LoadEnd;
-use dict_value::{Bytes, NoMemory};
+use dict_value::{Bytes, NoMemory, Row, Value};
 use itoa::Buffer;
-use load_core::TextRow;
+use row_text::write_text;
 
 /// The reply that stands in place of one that found no memory.
 pub const NO_MEMORY_REPLY: &[u8] = b"ERR\t99\n";
@@ -15,19 +15,39 @@ pub const NO_MEMORY_REPLY: &[u8] = b"ERR\t99\n";
 /// The reply to an input that is too long.
 pub const TOO_LONG_REPLY: &[u8] = b"ERR\t13\n";
 
-/// The first row with the key.
-fn find_row(rows: &[TextRow], key: u64) -> Option<&TextRow>
-    ensures { option_copied result ≡ find (λ (row : TextRow). row.key == key) rows.now }
+/// Whether a row has the key.
+fn has_key(row: &Row, key: u64) -> bool
+    ensures { result ≡ has_key key row.now }
 {
-    rows.iter().find(|row| row.key == key)
+    match row.as_slice() {
+        [Value::U(n), ..] => *n == key,
+        _ => false,
+    }
 }
 
-/// The text of the first row with the key, or nothing.
-pub fn first_text(rows: &[TextRow], key: u64) -> &[u8]
+/// The first row with the key.
+fn find_row(rows: &[Row], key: u64) -> Option<&Row>
+    ensures { option_copied result ≡ find (has_key key) rows.now }
+{
+    rows.iter().find(|row| has_key(row, key))
+}
+
+/// The text behind a row's key.
+fn row_text(row: &Row) -> &[u8]
+    ensures { result.now ≡ row_text row.now }
+{
+    match row.as_slice() {
+        [_, Value::S(text), ..] => text.as_slice(),
+        _ => b"",
+    }
+}
+
+/// The text of the first row with the key, or the default.
+pub fn first_text(rows: &[Row], key: u64) -> &[u8]
     ensures { result.now ≡ text_at rows.now key }
 {
     match find_row(rows, key) {
-        Some(row) => row.text.as_slice(),
+        Some(row) => row_text(row),
         None => b"",
     }
 }
@@ -42,14 +62,14 @@ fn push_version(out: &mut Bytes, number: u64) -> Result<(), NoMemory>
 }
 
 /// The value of a key in the rows of a version.
-pub fn value_reply(out: &mut Bytes, number: u64, rows: &[TextRow], key: u64) -> Result<(), NoMemory>
-    ensures { OnOk result (out.new ≡ codes "OK" ++ 9 ∷ (version_name number ++ 9 ∷ (text_at rows.now key ++ 10 ∷ []))) }
+pub fn value_reply(out: &mut Bytes, number: u64, rows: &[Row], key: u64) -> Result<(), NoMemory>
+    ensures { OnOk result (out.new ≡ codes "OK" ++ 9 ∷ (version_name number ++ 9 ∷ (value_text rows.now key ++ 10 ∷ []))) }
 {
     out.clear();
     out.extend(b"OK\t")?;
     push_version(out, number)?;
     out.extend(b"\t")?;
-    out.extend(first_text(rows, key))?;
+    write_text(first_text(rows, key), out)?;
     out.extend(b"\n")
 }
 

@@ -144,6 +144,23 @@ fn lookups_are_answered_from_the_child(rt: HostRuntime) -> Result<(), Fail> {
             ..FIRST
         },
         Case {
+            children: &[(b"1\ta\\\\\n", Ends::With(0))],
+            input: b"dictGet\td\tx\t1\n",
+            out: b"OK\tv1\ta\\\\\n",
+            ..FIRST
+        },
+        Case {
+            children: &[(b"+01\ta\\tb\n2\t\\N\n\\x33\tc\\\nd", Ends::With(0))],
+            input: b"dictGet\td\tx\t1\ndictGet\td\tx\t2\ndictGet\td\tx\t3\n",
+            out: b"OK\tv1\ta\\tb\nOK\tv1\t\nOK\tv1\tc\\nd\n",
+            ..FIRST
+        },
+        Case {
+            children: &[(b"", Ends::With(0))],
+            out: b"OK\tv1\t\n",
+            ..FIRST
+        },
+        Case {
             children: &[(b"7\tfirst\n7\tsecond\n499999\tlast\n", Ends::With(0))],
             input: b"dictGet\td\tx\t7\ndictGet\td\tx\t499999\n",
             out: b"OK\tv1\tfirst\nOK\tv1\tlast\n",
@@ -167,9 +184,9 @@ fn a_child_that_gives_no_table_leaves_nothing_loaded(rt: HostRuntime) -> Result<
         &[(b"1\ta\n2\tb\n", Ends::WaitFails)],
         &[(b"1\ta\tb\n2\tb\n", Ends::With(0))],
         &[(b"1\ta\r\n2\tb\n", Ends::With(0))],
-        &[(b"1\ta\\n\n2\tb\n", Ends::With(0))],
-        &[(b"1\ta\n2\tb", Ends::With(0))],
-        &[(b"000000000000000000002\tb\n", Ends::With(0))],
+        &[(b"1\ta\\x4\n2\tb\n", Ends::With(0))],
+        &[(b"1\ta\n2\tb\nx", Ends::With(0))],
+        &[(b"\\N\tb\n", Ends::With(0))],
     ];
     for children in &children {
         let case = Case {

@@ -15,6 +15,7 @@ use Rattle.load_core.specs.declared.world.WorldDict.{WorldDict}
 use Rattle.load_core.specs.declared.world.World.{World}
 use Rattle.load_core.specs.WorldSteps.{Verdicts, Answers, Step, Run}
 use Rattle.load_core.specs.Laws.{running, with_piece, joined, IsNoFinish, IsNoPublish, IsOfOneLoad}
+use Rattle.load_core.specs.WorldTurns.{IsShort}
 use Rattle.load_core.proofs.Runs.{joined_more, run_more}
 
 module _ (judges : Verdicts) (first : World) where
@@ -69,6 +70,7 @@ module _ (judges : Verdicts) (first : World) where
     pub rising : IsStrictlyIncreasing (map (λ e. e.load) x.entries)
     pub below : All (λ e. e.load + running x.core.phase ≤ x.core.loads) x.entries
     pub one_load : All (IsOfOneLoad judges first past now d) x.entries
+    pub short : IsShort x
     pub load : LoadIs past now d x.core.loads x.bytes x.core.phase
 
   -- one more event while a load is read
@@ -154,5 +156,6 @@ module _ (judges : Verdicts) (first : World) where
     rising = h.rising;
     below = h.below;
     one_load = All-weaker (IsOfOneLoad judges first past now d) (IsOfOneLoad judges first (past ++ event ∷ []) next d) (one_load_more past now d event next s) x.entries h.one_load;
+    short = h.short;
     load = load_same past now d x.core.loads x.bytes event next s x.core.phase reads waits h.load;
   }

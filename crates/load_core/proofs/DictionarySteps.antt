@@ -1,5 +1,5 @@
 -- What holds of a dictionary after one more event of it.
-use Rattle.std.proofs.Common.{◌≡◌, ℕ, ◌+◌, ◌<◌, ◌≤◌, zero, suc, List, [], ◌∷◌, ◌++◌, length, map, None, pos, negsuc, nat_eq, nat_le, Bool, true, false, if◌then◌else◌, refl, sym, ◌∙◌, ap, subst, inl, inr, arith, All}
+use Rattle.std.proofs.Common.{◌≡◌, ℕ, ◌+◌, ◌<◌, ◌≤◌, zero, suc, List, [], ◌∷◌, ◌++◌, length, map, None, pos, negsuc, nat_eq, nat_le, Bool, true, false, if◌then◌else◌, refl, sym, ◌∙◌, ap, subst, inl, inr, arith, length-append, All}
 use Rattle.std.specs.List.{range_with_len}
 use Rattle.std.specs.List.Sorted.{IsStrictlyIncreasing}
 use Rattle.std.proofs.lemmas.Bool.Decides.{nat_tests}
@@ -22,11 +22,11 @@ use Rattle.load_core.specs.declared.world.WorldEntry.{WorldEntry}
 use Rattle.load_core.specs.declared.world.WorldDict.{WorldDict}
 use Rattle.load_core.specs.declared.world.World.{World}
 use Rattle.load_core.specs.DictSteps.{Stepped, risen, refused, stepped}
-use Rattle.load_core.specs.WorldSteps.{Verdicts, Finishes, Takes, DictStep, Answers, Step, Run, counted}
+use Rattle.load_core.specs.WorldSteps.{Verdicts, Finishes, FinishesIn, Takes, DictStep, Answers, Step, Run, counted}
 use Rattle.load_core.specs.Laws.{running, with_piece, IsNoFinish, IsNoPublish, IsOfOneLoad}
 use Rattle.load_core.proofs.Dictionaries.{IsReading, IsReady, LoadIs, IsSound, reading_more, one_load_more, sound_same}
 use Rattle.load_core.proofs.Lists.{range_push, rising_push}
-use Rattle.load_core.proofs.Rows.{begun, taken, read, failed, published, posted, start_row, piece_row, rows_row, failed_row, publish_row, post_row, dict_refused, after_step}
+use Rattle.load_core.proofs.Rows.{begun, taken, read, failed, published, posted, start_row, piece_row, rows_row, failed_row, publish_row, post_row, dict_refused, finishes_running, after_step}
 
 -- only a whole output with status 0 that the judge accepts has rows
 rows_finish : (judges : Verdicts) (number : ℕ) (text : List ℕ) (ended : Ended) → Finishes judges number text ended Rows → (ended ≡ Whole (Code (pos 0))) × judges number text None
@@ -51,6 +51,13 @@ piece_taken d bytes piece h = go (nat_le (length bytes + length piece) 429496729
     go : (b : Bool) → nat_le (length bytes + length piece) 4294967295 ≡ b → (s : Bool) → nat_eq d d ≡ true → with_piece d bytes (Piece d piece) ≡ bytes ++ piece
     go true e s same = rw (same, e) refl
     go false e s same = absurd (let k : 0 < 0 = subst (λ (n : ℕ). 0 < n) (ap (λ b. if b then length piece else 0) e) h in omega arith)
+
+piece_short : (bytes piece : List ℕ) → 0 < counted bytes piece → length (bytes ++ piece) ≤ 4294967295
+piece_short bytes piece h = go (nat_le (length bytes + length piece) 4294967295) refl
+  where
+    go : (b : Bool) → nat_le (length bytes + length piece) 4294967295 ≡ b → length (bytes ++ piece) ≤ 4294967295
+    go true e = rw (length-append bytes piece) (grind (arith, nat_tests))
+    go false e = absurd (let k : 0 < 0 = subst (λ (n : ℕ). 0 < n) (ap (λ b. if b then length piece else 0) e) h in omega arith)
 
 piece_left : (d : ℕ) (bytes piece : List ℕ) → counted bytes piece ≡ 0 → with_piece d bytes (Piece d piece) ≡ bytes
 piece_left d bytes piece h = go (nat_le (length bytes + length piece) 4294967295) refl (grind (arith, nat_tests))
@@ -79,6 +86,7 @@ module _ (judges : Verdicts) (first : World) (past : List WorldEvent) (now next 
         rising = h.rising;
         below = All-weaker (λ (entry : WorldEntry). entry.load + running x.core.phase ≤ x.core.loads) (λ entry. entry.load + 1 ≤ x.core.loads + 1) (λ entry k. omega arith) x.entries h.below;
         one_load = still (Start d) (inl (effect.Begun (x.core.loads + 1), a));
+        short = omega arith;
         load = record {
           earlier = past;
           reading = [];
@@ -105,6 +113,7 @@ module _ (judges : Verdicts) (first : World) (past : List WorldEvent) (now next 
     rising = h.rising;
     below = h.below;
     one_load = still (Piece d piece) s;
+    short = piece_short x.bytes piece l;
     load = subst (LoadIs judges first (past ++ Piece d piece ∷ []) next d x.core.loads (x.bytes ++ piece)) (sym e)
         (reading_more judges first past now d x.core.loads x.bytes (x.bytes ++ piece) (Piece d piece) next (subst (LoadIs judges first past now d x.core.loads x.bytes) e h.load) s tt (piece_taken d x.bytes piece l));
   }
@@ -123,6 +132,7 @@ module _ (judges : Verdicts) (first : World) (past : List WorldEvent) (now next 
         rising = h.rising;
         below = All-weaker (λ (entry : WorldEntry). entry.load + running x.core.phase ≤ x.core.loads) (λ entry. entry.load + 1 ≤ x.core.loads) (λ entry k. omega arith) x.entries h.below;
         one_load = still (Finish d (Whole (Code (pos 0)))) (inl (effect.Ready, a));
+        short = h.short;
         load = record {
           earlier = r.earlier;
           reading = r.reading;
@@ -157,6 +167,7 @@ module _ (judges : Verdicts) (first : World) (past : List WorldEvent) (now next 
         rising = h.rising;
         below = All-weaker (λ (entry : WorldEntry). entry.load + running x.core.phase ≤ x.core.loads) (λ entry. entry.load + 0 ≤ x.core.loads) (λ entry k. omega arith) x.entries h.below;
         one_load = still (Finish d ended) s;
+        short = h.short;
         load = tt;
       }
 
@@ -202,6 +213,7 @@ module _ (judges : Verdicts) (first : World) (past : List WorldEvent) (now next 
           publish = a;
           after = refl;
         });
+        short = h.short;
         load = tt;
       }
 
@@ -218,6 +230,7 @@ module _ (judges : Verdicts) (first : World) (past : List WorldEvent) (now next 
         rising = h.rising;
         below = All-weaker (λ (entry : WorldEntry). entry.load + running x.core.phase ≤ x.core.loads) (λ entry. entry.load + 0 ≤ x.core.loads) (λ entry k. omega arith) x.entries h.below;
         one_load = still (Post d) s;
+        short = h.short;
         load = tt;
       }
 
@@ -251,17 +264,17 @@ module _ (judges : Verdicts) (first : World) (past : List WorldEvent) (now next 
   pub sound_finish : (ended : Ended) (y : WorldDict) (answer : DictEffect) → DictStep judges x (Finish d ended) answer y → Answers judges now d (Finish d ended) answer next → IsSound judges first (past ++ Finish d ended ∷ []) next d y
   sound_finish ended y answer t a = go t.0 t.1 t.2
     where
-      rows : (ending_is : (ended ≡ Whole (Code (pos 0))) × judges x.definition x.bytes None) → Takes x (core.Finish Rows) [] answer y → IsSound judges first (past ++ Finish d ended ∷ []) next d y
-      rows k u =
+      rows : FinishesIn x.core.phase judges x.definition x.bytes ended Rows → Takes x (core.Finish Rows) [] answer y → IsSound judges first (past ++ Finish d ended ∷ []) next d y
+      rows f u =
           elim (rows_row x.core) [
-            | inl r ↦ sound_by (Finish d ended) (core.Finish Rows) [] answer y (read x.core) u r.1 (λ e.
+            | inl r ↦ (let k = rows_finish judges x.definition x.bytes ended (finishes_running x.core.phase judges x.definition x.bytes ended Rows (ap running r.0) f) in sound_by (Finish d ended) (core.Finish Rows) [] answer y (read x.core) u r.1 (λ e.
                 subst (λ (n : Ended). IsSound judges first (past ++ Finish d n ∷ []) next d (after_step x [] (read x.core))) (sym k.0)
-                (sound_read r.0 (subst (λ (n : ℕ). judges n x.bytes None) h.place k.1) (subst (λ (n : Ended). Answers judges now d (Finish d n) effect.Ready next) k.0 (subst (λ (f : DictEffect). Answers judges now d (Finish d ended) f next) e a))))
+                (sound_read r.0 (subst (λ (n : ℕ). judges n x.bytes None) h.place k.1) (subst (λ (n : Ended). Answers judges now d (Finish d n) effect.Ready next) k.0 (subst (λ (f : DictEffect). Answers judges now d (Finish d ended) f next) e a)))))
             | inr r ↦ sound_refused (Finish d ended) y (inl (answer, a)) (left_by (core.Finish Rows) [] answer y u r.0) (λ e. absurd (r.1 e)) (λ e. tt)
           ]
 
-      go : (ending : Ending) → Finishes judges x.definition x.bytes ended ending → Takes x (core.Finish ending) [] answer y → IsSound judges first (past ++ Finish d ended ∷ []) next d y
-      go Rows f u = rows (rows_finish judges x.definition x.bytes ended f) u
+      go : (ending : Ending) → FinishesIn x.core.phase judges x.definition x.bytes ended ending → Takes x (core.Finish ending) [] answer y → IsSound judges first (past ++ Finish d ended ∷ []) next d y
+      go Rows f u = rows f u
       go (Failed why) f u =
           elim (failed_row x.core why) [
             | inl r ↦ sound_by (Finish d ended) (core.Finish (Failed why)) [] answer y (failed x.core why) u r.1 (λ e. sound_failed why ended r.0 (inl (answer, a)))

@@ -19,13 +19,14 @@ use Rattle.load_core.specs.declared.world.WorldEntry.{WorldEntry}
 use Rattle.load_core.specs.declared.world.WorldDict.{WorldDict}
 use Rattle.load_core.specs.declared.world.WorldCaller.{WorldCaller}
 use Rattle.load_core.specs.declared.world.World.{World}
-use Rattle.load_core.specs.WorldSteps.{Verdicts, Finishes, Takes, DictStep, Answers, CallerEvents, Step, Run, last_number, dict_at, with_dict, caller_at, learnt, empty_world}
+use Rattle.load_core.specs.WorldSteps.{Verdicts, Finishes, FinishesIn, Takes, DictStep, Answers, CallerEvents, Step, Run, last_number, dict_at, with_dict, caller_at, learnt, empty_world}
 use Rattle.load_core.specs.Laws.{entries_in, entries_of, posted_in, posted_of, cause_in, cause_of, answers_in, answers_of, EachDict, Grows, IsNumbered, IsRising, IsCounted, IsPosted, OneLoadEach, IsOfOneLoad, FailingKeeps, PublishedClears, RefusedKeeps, IsLengthAtEnter, LengthsAtEnter, NeverFall, NeverOlder, NeverBelowLearnt}
+use Rattle.load_core.specs.WorldTurns.{IsShort}
 use Rattle.load_core.proofs.Callers.{last_number_is}
 use Rattle.load_core.proofs.Dictionaries.{IsSound}
 use Rattle.load_core.proofs.Lists.{All-from_slice_get}
 use Rattle.load_core.proofs.Places.{dict_at-with_same, with_dict_same}
-use Rattle.load_core.proofs.Rows.{failed, rows_row, failed_row, publish_row, dict_refused, after_step}
+use Rattle.load_core.proofs.Rows.{failed, rows_row, failed_row, publish_row, dict_refused, finishes_running, after_step}
 use Rattle.load_core.proofs.Runs.{caller_turn, informs_same, CallerTurn, IsShown, IsTold}
 use Rattle.load_core.proofs.Worlds.{IsSoundWorld, sound_world, sound_next, run_grows}
 
@@ -61,6 +62,9 @@ module _ (judges : Verdicts) where
   pub counts : EachDict judges IsCounted
   counts = each_dict IsCounted (λ first now past d x h. (h.oks, h.loads))
 
+  pub short : EachDict judges IsShort
+  short = each_dict IsShort (λ first now past d x h. h.short)
+
   pub posted_is : EachDict judges IsPosted
   posted_is = each_dict IsPosted (λ first now past d x h. h.posted)
 
@@ -90,7 +94,7 @@ module _ (judges : Verdicts) where
   pub failing_keeps : FailingKeeps judges
   failing_keeps old new d ended a = go a.step.0 a.step.1 a.step.2
     where
-      go : (ending : Ending) → Finishes judges a.before.definition a.before.bytes ended ending → Takes a.before (core.Finish ending) [] effect.Failing a.after → (why : Cause) × Finishes judges a.before.definition a.before.bytes ended (Failed why) × (cause_of new d ≡ last.Of why) × (entries_of new d ≡ entries_of old d)
+      go : (ending : Ending) → FinishesIn a.before.core.phase judges a.before.definition a.before.bytes ended ending → Takes a.before (core.Finish ending) [] effect.Failing a.after → (why : Cause) × Finishes judges a.before.definition a.before.bytes ended (Failed why) × (cause_of new d ≡ last.Of why) × (entries_of new d ≡ entries_of old d)
       go Rows f t =
           elim (rows_row a.before.core) [
             | inl r ↦ let k : effect.Failing ≡ effect.Ready = t.answers ∙ ap (λ s. s.effect) r.1 in cc
@@ -99,7 +103,7 @@ module _ (judges : Verdicts) where
       go (Failed why) f t =
           elim (failed_row a.before.core why) [
             | inl r ↦ (let is : dict_at new d ≡ Some (after_step a.before [] (failed a.before.core why)) = after_answer old new d (Finish d ended) effect.Failing a ∙ ap (λ (y : WorldDict). Some y) (t.leaves ∙ ap (after_step a.before []) r.1) in
-                (why, f, ap cause_in is, ap entries_in is ∙ sym (ap entries_in a.found)))
+                (why, finishes_running a.before.core.phase judges a.before.definition a.before.bytes ended (Failed why) r.0 f, ap cause_in is, ap entries_in is ∙ sym (ap entries_in a.found)))
             | inr r ↦ let k : effect.Failing ≡ effect.Refused = t.answers ∙ ap (λ s. s.effect) r.0 in cc
           ]
 

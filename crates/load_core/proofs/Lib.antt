@@ -1,10 +1,10 @@
 pub mod Callers
 pub mod Dictionaries
 pub mod DictionarySteps
+pub mod FlatTables
 pub mod LawLemmas
 pub mod Lists
 pub mod Places
 pub mod Rows
 pub mod Runs
-pub mod StrictForm
 pub mod Worlds

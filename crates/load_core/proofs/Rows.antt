@@ -1,10 +1,11 @@
 -- Which row of the table an event takes.
-use Rattle.std.proofs.Common.{◌≡◌, ◌≢◌, ℕ, ◌+◌, ◌<◌, ◌≤◌, ◌⊎◌, nat_lt, true, false, refl, sym, ◌∙◌, ap, inl, inr, arith, if◌then◌else◌, List}
+use Rattle.std.proofs.Common.{◌≡◌, ◌≢◌, ℕ, ◌+◌, ◌<◌, ◌≤◌, ◌⊎◌, nat_lt, true, false, refl, sym, ◌∙◌, ap, inl, inr, arith, if◌then◌else◌, List, []}
 use Rattle.std.proofs.lemmas.Bool.Decides.{nat_tests}
 use Rattle.dict_value.specs.declared.fault.Cause.{Cause}
 use Rattle.load_core.specs.declared.dictionary.DictCore.{DictCore}
 use Rattle.load_core.specs.declared.dictionary.DictEvent.{DictEvent}
 use Rattle.load_core.specs.declared.dictionary.DictEvent.TheVariants.{Start, Piece, Finish, Publish, Post}
+use Rattle.load_core.specs.declared.dictionary.Ending.{Ending}
 use Rattle.load_core.specs.declared.dictionary.Ending.TheVariants.{Rows, Failed}
 use Rattle.load_core.specs.declared.dictionary.DictEffect.{DictEffect}
 use Rattle.load_core.specs.declared.dictionary.DictEffect.TheVariants as effect
@@ -13,7 +14,9 @@ use Rattle.load_core.specs.declared.dictionary.Phase.{Phase}
 use Rattle.load_core.specs.declared.dictionary.Phase.TheVariants.{Idle, Reading, Ready, ToPost}
 use Rattle.load_core.specs.declared.world.WorldDict.{WorldDict}
 use Rattle.load_core.specs.DictSteps.{Stepped, risen, refused, row, stepped}
-use Rattle.load_core.specs.WorldSteps.{kept, dict_after}
+use Rattle.load_core.specs.declared.world.Ended.{Ended}
+use Rattle.load_core.specs.declared.world.WorldEvent.TheVariants as event
+use Rattle.load_core.specs.WorldSteps.{Verdicts, Finishes, FinishesIn, DictStep, kept, dict_after}
 use Rattle.load_core.specs.Laws.{running}
 
 -- what each row leaves and answers
@@ -178,3 +181,31 @@ pub dict_refused : (x : WorldDict) (event : DictEvent) (piece : List ℕ) → (s
 dict_refused x event piece h =
     ap (λ (e : DictEffect). record (kept x piece e) { core = (stepped x.core event).core }) h
     ∙ ap (λ (c : DictCore). record x { core = c }) (core_refused x.core event h)
+
+-- where a load runs, the ending is that of how its child ended
+pub finishes_running : (p : Phase) (judges : Verdicts) (number : ℕ) (text : List ℕ) (ended : Ended) (ending : Ending) → running p ≡ 1 → FinishesIn p judges number text ended ending → Finishes judges number text ended ending
+finishes_running Idle judges number text ended ending e f = absurd (omega arith)
+finishes_running Reading judges number text ended ending e f = f
+finishes_running Ready judges number text ended ending e f = f
+finishes_running ToPost judges number text ended ending e f = absurd (omega arith)
+
+pub running_finishes : (p : Phase) (judges : Verdicts) (number : ℕ) (text : List ℕ) (ended : Ended) (ending : Ending) → (p ≡ Reading) ⊎ (p ≡ Ready) → Finishes judges number text ended ending → FinishesIn p judges number text ended ending
+running_finishes Idle judges number text ended ending e f = tt
+running_finishes Reading judges number text ended ending e f = f
+running_finishes Ready judges number text ended ending e f = f
+running_finishes ToPost judges number text ended ending e f = tt
+
+-- where none runs, each will do
+finishes_idle : (p : Phase) (judges : Verdicts) (number : ℕ) (text : List ℕ) (ended : Ended) (ending : Ending) → running p ≡ 0 → FinishesIn p judges number text ended ending
+finishes_idle Idle judges number text ended ending e = tt
+finishes_idle Reading judges number text ended ending e = absurd (omega arith)
+finishes_idle Ready judges number text ended ending e = absurd (omega arith)
+finishes_idle ToPost judges number text ended ending e = tt
+
+-- and a Finish leaves the dictionary
+pub idle_finish : (judges : Verdicts) (x : WorldDict) (d : ℕ) (ended : Ended) → (x.core.phase ≡ Idle) ⊎ (x.core.phase ≡ ToPost) → (answer : DictEffect) × DictStep judges x (event.Finish d ended) answer x
+idle_finish judges x d ended waits = let e : running x.core.phase ≡ 0 = elim waits [ inl i ↦ ap running i | inr i ↦ ap running i ] in elim (rows_row x.core) [
+  | inl r ↦ absurd (let k : running x.core.phase ≡ 1 = ap running r.0 in omega arith)
+  | inr r ↦ (let k : (stepped x.core (Finish Rows)).effect ≡ effect.Refused = ap (λ s. s.effect) r.0 in
+      (effect.Refused, (Rows, finishes_idle x.core.phase judges x.definition x.bytes ended Rows e, record { answers = sym k; leaves = sym (dict_refused x (Finish Rows) [] k) })))
+]

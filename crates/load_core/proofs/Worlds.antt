@@ -201,6 +201,7 @@ module _ (judges : Verdicts) where
       rising = λ k l. absurd (omega arith);
       below = All-nil _;
       one_load = All-nil _;
+      short = omega arith;
       load = tt;
     });
     callers = λ c d u found. subst (IsInformed judges (empty_world n m) [] (empty_world n m) c d) (empty_caller_at n m c d u found) (record {

@@ -58,7 +58,7 @@ answers_of w c d = answers_in (caller_at w c d)
 abbrev pub IsPrefixOf : {A : Type 0} → List A → List A → Type 0
 IsPrefixOf {A} xs ys = (rest : List A) × (ys ≡ xs ++ rest)
 
--- one in the phases in which a load runs that hasn't ended
+-- how many loads run in a phase: one while it reads and while it waits to be published
 abbrev pub running : Phase → ℕ
 running Idle = 0
 running Reading = 1

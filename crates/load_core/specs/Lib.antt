@@ -1,7 +1,7 @@
 pub mod CallerSteps
 pub mod DictSteps
+pub mod FirstRows
+pub mod FlatRows
 pub mod Laws
-pub mod StrictRows
-pub mod StrictVerdicts
 pub mod WorldSteps
 pub mod WorldTurns

@@ -10,6 +10,8 @@ use Rattle.load_core.specs.declared.dictionary.DictEffect.{DictEffect}
 use Rattle.load_core.specs.declared.dictionary.DictEffect.TheVariants as effect
 use Rattle.load_core.specs.declared.dictionary.Ending.{Ending}
 use Rattle.load_core.specs.declared.dictionary.Ending.TheVariants.{Rows, Failed}
+use Rattle.load_core.specs.declared.dictionary.Phase.{Phase}
+use Rattle.load_core.specs.declared.dictionary.Phase.TheVariants.{Idle, Reading, Ready, ToPost}
 use Rattle.load_core.specs.declared.caller.CallerEvent.{CallerEvent}
 use Rattle.load_core.specs.declared.caller.CallerEvent.TheVariants.{Entered, Told}
 use Rattle.load_core.specs.declared.world.Ended.{Ended}
@@ -43,6 +45,13 @@ Finishes judges number text (Whole (Code status)) ending = ending ≡ Failed (ca
 Finishes judges number text (Whole Killed) ending = ending ≡ Failed cause.Killed
 Finishes judges number text NoMemory ending = ending ≡ Failed cause.NoMemory
 
+-- how a load finishes in a phase; where none runs any ending will do, since the core refuses each
+abbrev pub FinishesIn : Phase → Verdicts → ℕ → List ℕ → Ended → Ending → Type 0
+FinishesIn Idle judges number text ended ending = Unit {0}
+FinishesIn Reading judges number text ended ending = Finishes judges number text ended ending
+FinishesIn Ready judges number text ended ending = Finishes judges number text ended ending
+FinishesIn ToPost judges number text ended ending = Unit {0}
+
 -- how many bytes a piece counts: one that would bring them above the bound is as an empty one
 abbrev pub counted : List ℕ → List ℕ → ℕ
 counted bytes piece = if nat_le (length bytes + length piece) 4294967295 then length piece else 0
@@ -71,7 +80,7 @@ abbrev pub DictStep : Verdicts → WorldDict → WorldEvent → DictEffect → W
 DictStep judges x (Start d) answer y = Takes x core.Start [] answer y
 DictStep judges x (Piece d piece) answer y = Takes x (core.Piece (counted x.bytes piece)) piece answer y
 DictStep judges x (Finish d ended) answer y =
-    (ending : Ending) × Finishes judges x.definition x.bytes ended ending × Takes x (core.Finish ending) [] answer y
+    (ending : Ending) × FinishesIn x.core.phase judges x.definition x.bytes ended ending × Takes x (core.Finish ending) [] answer y
 DictStep judges x (Publish d) answer y = Takes x core.Publish [] answer y
 DictStep judges x (Post d) answer y = Takes x core.Post [] answer y
 -- the others aren't events of a dictionary

@@ -9,12 +9,12 @@ pub trait Judge {
     ghost judges: { Verdicts };
 }
 
-/// The strict form of rows, for a definition of any number.
+/// The rows of one key of type UInt64 and one String, for a definition of any number.
 #[derive(Clone, Copy, Debug)]
-pub struct StrictJudge;
+pub struct RowJudge;
 
-impl Judge for StrictJudge {
-    ghost use Rattle.load_core.specs.StrictVerdicts.{strict_verdicts};
+impl Judge for RowJudge {
+    ghost use Rattle.load_core.specs.FirstRows.{row_verdicts};
 
-    ghost judges = { strict_verdicts };
+    ghost judges = { row_verdicts };
 }

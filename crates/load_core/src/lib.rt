@@ -4,19 +4,21 @@
 //! answered Refused and changes nothing, that no step takes memory, that a world runs by the steps
 //! of its cores, and, of every list of events and every judge of outputs, the law in [`laws`]:
 //! lists only grow, by entries of whole loads that the judge accepts, and no caller goes back.
+//! [`accept`] makes a flat table of decoded rows exactly where no key is too large.
 #![tactic(auto)]
 
 pub mod caller;
 pub mod dictionary;
+mod first_rows;
+pub mod flat;
 pub mod judge;
 pub mod laws;
-pub mod strict;
 #[cfg(test)]
 mod tests;
 pub mod world;
 
 pub use caller::{CallerCore, CallerEffect, CallerEvent};
 pub use dictionary::{DictCore, DictEffect, DictEvent, Ending, LastCause, MOST_LOADS, Phase};
-pub use judge::{Judge, StrictJudge};
-pub use strict::{TableFault, TextRow, read_table};
+pub use flat::{FIRST_LARGE_KEY, TableFault, accept};
+pub use judge::{Judge, RowJudge};
 pub use world::{Ended, World, WorldCaller, WorldDict, WorldEntry, WorldEvent};

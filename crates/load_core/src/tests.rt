@@ -1,9 +1,9 @@
 // The cores and the world on worked rows.
 use crate::{
     CallerCore, DictCore, DictEffect, DictEvent, Ended, Ending, LastCause, MOST_LOADS, Phase,
-    World, WorldEvent, read_table,
+    World, WorldEvent,
 };
-use dict_value::{Bytes, Cause, Exit};
+use dict_value::{BadRow, BadValue, Bytes, Cause, Exit, Why};
 use std::test::Fail;
 
 #[test]
@@ -111,13 +111,40 @@ fn each_pair_of_phase_and_event(rt: HostRuntime) {
 }
 
 #[test]
-fn two_rows_in_the_strict_form(rt: HostRuntime) -> Result<(), Fail> {
-    let rows = read_table(rt.alloc(), b"1\ta\n2\tb\n")?;
-    let [first, second] = rows.as_slice() else {
-        return Err(Fail::from("not two rows"));
+fn outputs_with_their_verdicts(rt: HostRuntime) -> Result<(), Fail> {
+    let word = BadRow {
+        line: 2,
+        column: 1,
+        why: Why::Value(BadValue::NotANumber),
     };
-    assert_eq!(rt; (first.key, second.key), (1, 2));
-    assert_eq!(rt; first.text.as_slice(), b"a".as_slice());
-    assert_eq!(rt; second.text.as_slice(), b"b".as_slice());
+    let table = [
+        (b"1\ta\\\\\n".as_slice(), Phase::Ready, LastCause::None),
+        (b"1\ta".as_slice(), Phase::Ready, LastCause::None),
+        (b"499999\t\\N\n".as_slice(), Phase::Ready, LastCause::None),
+        (
+            b"1\ta\nx\tb\n".as_slice(),
+            Phase::ToPost,
+            LastCause::Of(Cause::Row(word)),
+        ),
+        (
+            b"1\ta\n500000\tb\n500001\tc\n".as_slice(),
+            Phase::ToPost,
+            LastCause::Of(Cause::Key(500000)),
+        ),
+    ];
+    for (output, phase, cause) in table {
+        let piece = Bytes::copy_of(rt.alloc(), output)?;
+        let events = [
+            WorldEvent::Start(0),
+            WorldEvent::Piece(0, piece),
+            WorldEvent::Finish(0, Ended::Whole(Exit::Code(0))),
+        ];
+        let world = World::run(rt.alloc(), 1, 0, &events)?;
+        let [dictionary] = world.dictionaries.as_slice() else {
+            return Err(Fail::from("not one dictionary"));
+        };
+        assert_eq!(rt; dictionary.core.phase, phase, "at {output:?}");
+        assert_eq!(rt; dictionary.core.cause, cause, "at {output:?}");
+    }
     Ok(())
 }

@@ -1,15 +1,17 @@
 // Dictionaries and callers at once, and what a list of events makes of them.
-ghost use Rattle.std.specs.Prelude.{◌≡◌, [], ◌∷◌, ◌++◌, ◌≤◌, length, map, replicate, MatchOption, IfOk, OnOk, slice_get, slice_set};
+ghost use Rattle.std.specs.Prelude.{◌≡◌, [], ◌∷◌, ◌++◌, ◌≤◌, length, map, replicate, MatchOption, IfOk, OnOk, All, slice_get, slice_set};
 ghost use Rattle.std.specs.List.{range_with_len};
-ghost use Rattle.load_core.specs.StrictVerdicts.{strict_verdicts};
+ghost use Rattle.load_core.specs.FirstRows.{row_verdicts};
 ghost use Rattle.load_core.specs.WorldSteps.{Judged, Finishes, Run, Step, counted, dict_after, dict_at, with_dict, caller_at, with_caller, known_to, last_number, knowing, empty_dict, empty_caller, empty_world};
-ghost use Rattle.load_core.specs.WorldTurns.{DictTurn};
+ghost use Rattle.load_core.specs.WorldTurns.{DictTurn, IsShort};
 
 use crate::caller::{CallerCore, CallerEvent};
-use crate::dictionary::{DictCore, DictEffect, DictEvent, Ending};
-use crate::judge::{Judge, StrictJudge};
-use crate::strict::{TableFault, read_table};
-use dict_value::{Bytes, Cause, Exit, ListOf, NoMemory};
+use crate::dictionary::{DictCore, DictEffect, DictEvent, Ending, Phase};
+use crate::first_rows::FirstColumns;
+use crate::flat::{TableFault, accept};
+use crate::judge::{Judge, RowJudge};
+use dict_value::{Bytes, Cause, Exit, Format, ListOf, NoMemory};
+use row_text::decode_rows;
 use std::alloc::Global;
 use std::mem;
 
@@ -112,7 +114,8 @@ impl WorldDict {
 
     /// How its load finishes, by how the child ended.
     fn ending(&self, alloc: Global, ended: Ended) -> Result<Ending, NoMemory>
-        ensures { IfOk result (λ ending. Finishes strict_verdicts self.now.definition self.now.bytes ended ending) }
+        requires { IsShort self.now }
+        ensures { IfOk result (λ ending. Finishes row_verdicts self.now.definition self.now.bytes ended ending) }
     {
         let cause = match ended {
             Ended::NotStarted => Cause::Start,
@@ -155,7 +158,8 @@ impl WorldDict {
 
     /// One event of the world; those of callers leave it as it is.
     fn happen(&mut self, alloc: Global, event: &WorldEvent) -> Result<(), NoMemory>
-        ensures { OnOk result (DictTurn strict_verdicts self.old event.now self.new) }
+        requires { IsShort self.old }
+        ensures { OnOk result (DictTurn row_verdicts self.old event.now self.new) }
     {
         match event {
             WorldEvent::Start(_) => self.take(alloc, DictEvent::Start, &[]),
@@ -163,10 +167,14 @@ impl WorldDict {
                 let count = self.counted(piece.as_slice());
                 self.take(alloc, DictEvent::Piece(count), piece.as_slice())
             }
-            WorldEvent::Finish(_, ended) => {
-                let ending = self.ending(alloc, *ended)?;
-                self.take(alloc, DictEvent::Finish(ending), &[])
-            }
+            WorldEvent::Finish(_, ended) => match self.core.phase {
+                Phase::Reading | Phase::Ready => {
+                    let ending = self.ending(alloc, *ended)?;
+                    self.take(alloc, DictEvent::Finish(ending), &[])
+                }
+                // The core refuses each end of a load that isn't there.
+                Phase::Idle | Phase::ToPost => Ok(()),
+            },
             WorldEvent::Publish(_) => self.take(alloc, DictEvent::Publish, &[]),
             WorldEvent::Post(_) => self.take(alloc, DictEvent::Post, &[]),
             WorldEvent::Enter(_, _) | WorldEvent::Learn(_, _) => Ok(()),
@@ -186,9 +194,10 @@ impl WorldDict {
 
 /// What the judge says of a whole output.
 fn judged(alloc: Global, definition: u32, text: &[u8]) -> Result<Ending, NoMemory>
-    ensures { IfOk result (λ ending. Judged strict_verdicts definition text.now ending) }
+    requires { length text.now ≤ 4294967295 }
+    ensures { IfOk result (λ ending. Judged row_verdicts definition text.now ending) }
 {
-    match read_table(alloc, text) {
+    match accept(decode_rows(alloc, Format::Tab, &FirstColumns, text)) {
         Ok(_) => Ok(Ending::Rows),
         Err(TableFault::Refused(cause)) => Ok(Ending::Failed(cause)),
         Err(TableFault::NoMemory) => Err(NoMemory),
@@ -275,7 +284,8 @@ impl World {
 
     /// An event of the dictionary at a place; where there is none, nothing changes.
     fn in_dict(self, alloc: Global, d: u32, event: &WorldEvent) -> Result<World, NoMemory>
-        ensures { IfOk result (λ world. MatchOption (dict_at self d) (world ≡ self) (λ x. (y : WorldDict) × DictTurn strict_verdicts x event.now y × (world ≡ with_dict self d y))) }
+        requires { All IsShort self.dictionaries }
+        ensures { IfOk result (λ world. MatchOption (dict_at self d) (world ≡ self) (λ x. (y : WorldDict) × DictTurn row_verdicts x event.now y × (world ≡ with_dict self d y))) }
     {
         let World {
             dictionaries,
@@ -314,7 +324,8 @@ impl World {
 
     /// One event.
     fn after(self, alloc: Global, event: &WorldEvent) -> Result<World, NoMemory>
-        ensures { IfOk result (Step strict_verdicts self event.now) }
+        requires { All IsShort self.dictionaries }
+        ensures { IfOk result (Step row_verdicts self event.now) }
     {
         match event {
             WorldEvent::Start(d)
@@ -339,15 +350,15 @@ impl World {
         }
     }
 
-    /// The world that these events lead to from the empty one, where each definition takes rows in
-    /// the strict form.
+    /// The world that these events lead to from the empty one, where each definition takes rows of one
+    /// key of type UInt64 and one String, as TabSeparated.
     pub fn run(
         alloc: Global,
         dictionaries: u32,
         callers: u32,
         events: &[WorldEvent],
     ) -> Result<World, NoMemory>
-        ensures { IfOk result (Run ⟦<StrictJudge as Judge>⟧.judges (empty_world dictionaries callers) events.now) }
+        ensures { IfOk result (Run ⟦<RowJudge as Judge>⟧.judges (empty_world dictionaries callers) events.now) }
     {
         let mut world = World::empty(alloc, dictionaries, callers)?;
         for event in events {

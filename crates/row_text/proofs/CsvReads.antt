@@ -81,7 +81,7 @@ one-record line a b (s, left, (p, e, is, rest), end) (s', left', (p', e', is', r
 pub one-csv_row : (line : List ℕ) (f g : List Field) → IsCsvRow line f → IsCsvRow line g → f ≡ g
 one-csv_row line f g p q = p.2 ∙ ap (map field.Text) (one-record line p.0 q.0 p.1 q.1) ∙ sym q.2
 
-one-answer : (line : List ℕ) (a b : Result (List Field) LineFault) → CsvAnswers line a → CsvAnswers line b → a ≡ b
+pub one-answer : (line : List ℕ) (a b : Result (List Field) LineFault) → CsvAnswers line a → CsvAnswers line b → a ≡ b
 one-answer line (Ok f) (Ok g) p q = ap (λ (t : List Field). Ok t) (one-csv_row line f g p q)
 one-answer line (Ok f) (Err (fault.BadEscape j)) p q = absurd q
 one-answer line (Ok f) (Err fault.CarriageReturn) p q = absurd q

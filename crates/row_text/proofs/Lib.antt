@@ -1,4 +1,6 @@
 mod CutSteps
+mod Readings
+mod Decoded
 mod Pieces
 pub mod OneCutting
 mod MarkLists
@@ -10,4 +12,5 @@ pub mod CsvReads
 mod CsvPlain
 mod CsvWritten
 pub mod Tabled
+mod OneDecoding
 pub mod CutGrowth

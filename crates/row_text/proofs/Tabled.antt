@@ -29,15 +29,15 @@ one-lines by text lines others (rows, rest, cuts, are) (rows', rest', cuts', are
     are ∙ ap (λ (rs : List (List ℕ)). rs ++ last_line rest) same.0 ∙ ap (λ (r : List ℕ). rows' ++ last_line r) same.1 ∙ sym are'
 
 -- rows that are fixed by their lines
-same-rows : (R : List ℕ → List Field → Type 0) → ((line : List ℕ) (f g : List Field) → R line f → R line g → f ≡ g)
-    → (lines : List (List ℕ)) (table other : List (List Field)) → AllZip R lines table → AllZip R lines other → table ≡ other
+pub same-rows : {Row : Type 0} → (R : List ℕ → Row → Type 0) → ((line : List ℕ) (f g : Row) → R line f → R line g → f ≡ g)
+    → (lines : List (List ℕ)) (table other : List Row) → AllZip R lines table → AllZip R lines other → table ≡ other
 same-rows R one [] [] [] p q = refl
 same-rows R one [] [] (g ∷ gs) p q = absurd q
 same-rows R one [] (f ∷ fs) other p q = absurd p
 same-rows R one (line ∷ lines) [] other p q = absurd p
 same-rows R one (line ∷ lines) (f ∷ fs) [] p q = absurd q
 same-rows R one (line ∷ lines) (f ∷ fs) (g ∷ gs) p q =
-    ap (λ (row : List Field). row ∷ fs) (one line f g p.0 q.0) ∙ ap (λ (rows : List (List Field)). g ∷ rows) (same-rows R one lines fs gs p.1 q.1)
+    ap (λ row. row ∷ fs) (one line f g p.0 q.0) ∙ ap (λ rows. g ∷ rows) (same-rows R one lines fs gs p.1 q.1)
 
 pub one-tab_table : (text : List ℕ) (table other : List (List Field)) → IsTabTable text table → IsTabTable text other → table ≡ other
 one-tab_table text table other (lines, are, rows) (lines', are', rows') =

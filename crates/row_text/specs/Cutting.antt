@@ -1,5 +1,5 @@
 -- Where the rows of a text end.
-use Rattle.std.specs.Prelude.{◌≡◌, ◌==◌, ◌%◌, ◌<◌, ◌∷◌, ◌++◌, [], Bool, true, false, ℕ, List, length, take, slice_index, count_by}
+use Rattle.std.specs.Prelude.{◌≡◌, ◌⊎◌, ◌==◌, ◌%◌, ◌<◌, ◌∷◌, ◌++◌, [], Bool, true, false, ℕ, List, length, take, slice_index, count_by}
 use Rattle.std.specs.List.{AllByRecursion, flat_map, suffix_len}
 use Rattle.row_text.specs.declared.cutter.CutRule.{CutRule}
 use Rattle.row_text.specs.declared.cutter.CutRule.TheVariants as rule
@@ -26,6 +26,10 @@ pub record IsWhole (rule : CutRule) (row : List ℕ) : Type 0 where
 -- a row with the line feed that ends it
 abbrev pub ended : List ℕ → List ℕ
 ended row = row ++ line_feed ∷ []
+
+-- the text begins with this line, and the rest stands behind its line feed; or it is this line without one
+abbrev pub BeginsWithLine : CutRule → List ℕ → List ℕ → List ℕ → Type 0
+BeginsWithLine rule text line rest = (IsWhole rule line × (text ≡ ended line ++ rest)) ⊎ (IsOpen rule line × (text ≡ line) × (rest ≡ []))
 
 -- the text is these whole rows, each with its line feed, and then bytes of a row that has not ended
 pub record Cuts (rule : CutRule) (text : List ℕ) (rows : List (List ℕ)) (rest : List ℕ) : Type 0 where

@@ -8,3 +8,5 @@ pub mod Cutting
 pub mod Held
 pub mod Found
 pub mod Tables
+pub mod Decoding
+pub mod DecodeSteps

@@ -2,6 +2,7 @@
 ghost use Rattle.std.specs.Prelude.{◌≡◌, ◌↔◌, ◌∷◌, ◌++◌, [], ℕ, List, IfOk, IsTrue, OnOk};
 ghost use Rattle.std.specs.List.{AllByRecursion, flat_map};
 ghost use Rattle.row_text.specs.Cutting.{AreRows, IsOpen, IsWhole, ended, keeps_open, text_of};
+ghost use Rattle.row_text.specs.Cutting.{BeginsWithLine};
 ghost use Rattle.row_text.specs.Found.{Finds, IsWithin};
 ghost use Rattle.row_text.specs.Held.{Holds};
 ghost use Rattle.row_text.specs.declared.cutter.CutRule.{CutRule};
@@ -121,6 +122,17 @@ fn row_end(rule: CutRule, before: bool, piece: &[u8]) -> Found
         inside = inside_after(rule, inside, *b);
     }
     Found::Inside(inside)
+}
+
+/// The first line of a text, without its line feed, and what stands behind it.
+pub fn first_line(rule: CutRule, text: &[u8]) -> (&[u8], &[u8])
+    ensures { BeginsWithLine rule text.now result.0.now result.1.now }
+{
+    let mut cutter = Cutter::new(rule);
+    match cutter.feed(text) {
+        Cut::Row(count) => (&text[..count - 1], &text[count..]),
+        Cut::More => (text, &[]),
+    }
 }
 
 /// The rows of a text that comes in these pieces, without their line feeds, up to its last row end.

@@ -8,13 +8,15 @@
 
 pub mod csv_row;
 pub mod cutter;
+pub mod decode;
 pub mod laws;
 pub mod tab_row;
 
 pub use csv_row::{is_blank, read_csv_row, write_csv_row};
-pub use cutter::{Cut, CutRule, Cutter, rows_of_pieces};
-pub use laws::{one_list_of_lines, one_table, written_tables};
-pub use tab_row::{read_fields, write_row};
+pub use cutter::{Cut, CutRule, Cutter, first_line, rows_of_pieces};
+pub use decode::{Columns, DecodeFault, MOST_ROWS, decode_rows};
+pub use laws::{one_decoding, one_list_of_lines, one_table, written_tables};
+pub use tab_row::{read_fields, write_row, write_text};
 
 #[cfg(test)]
 mod tests;

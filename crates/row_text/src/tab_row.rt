@@ -2,6 +2,7 @@
 ghost use Rattle.std.specs.Prelude.{◌≡◌, ◌≢◌, ◌≤◌, ◌<◌, ◌+◌, ◌⊎◌, ◌∷◌, ◌++◌, [], ℕ, List, Result, length, map, take, slice_index, IfSome, OnErr, OnOk};
 ghost use Rattle.std.specs.List.{AllByRecursion, flat_map};
 ghost use Rattle.dict_value.specs.declared.value.Field.{Field};
+ghost use Rattle.dict_value.specs.declared.value.Field.TheVariants as field;
 ghost use Rattle.dict_value.specs.declared.fault.LineFault.{LineFault};
 ghost use Rattle.row_text.specs.Cutting.{IsWhole, ended};
 ghost use Rattle.row_text.specs.Letters.{backslash, tab};
@@ -176,13 +177,34 @@ pub fn write_row(fields: &[Field], out: &mut Bytes) -> Result<(), NoMemory>
     ensures again { IsRow (row_line fields.now) fields.now }
 {
     let before = out.len();
-    match append_row(fields, out) {
-        Ok(()) => Ok(()),
-        Err(NoMemory) => {
-            out.truncate(before);
-            Err(NoMemory)
-        }
+    let written = append_row(fields, out);
+    whole_or_none(written, before, out)
+}
+
+/// Appends a text as a field is written, without a tab or a line feed.
+pub fn write_text(text: &[u8], out: &mut Bytes) -> Result<(), NoMemory>
+    ensures ok { OnOk result (out.new ≡ out.old ++ field_text (field.Text text.now)) }
+    ensures err { OnErr result (out.new ≡ out.old) }
+{
+    let before = out.len();
+    let written = append_escaped(text, out);
+    whole_or_none(written, before, out)
+}
+
+/// Keeps what was written behind so many bytes, or drops it where it isn't whole.
+fn whole_or_none(
+    written: Result<(), NoMemory>,
+    before: usize,
+    out: &mut Bytes,
+) -> Result<(), NoMemory>
+    ensures same { result ≡ written }
+    ensures ok { OnOk result (out.new ≡ out.old) }
+    ensures err { OnErr result (out.new ≡ take before out.old) }
+{
+    if written.is_err() {
+        out.truncate(before);
     }
+    written
 }
 
 /// Appends the row; after `NoMemory` a front of it may stand behind what was there.

@@ -1,8 +1,8 @@
 ghost use Rattle.std.specs.Prelude.{◌<◌};
 
 use crate::{
-    Cut, CutRule, Cutter, is_blank, one_list_of_lines, one_table, read_csv_row, read_fields,
-    rows_of_pieces, write_csv_row, write_row, written_tables,
+    Cut, CutRule, Cutter, is_blank, one_decoding, one_list_of_lines, one_table, read_csv_row,
+    read_fields, rows_of_pieces, write_csv_row, write_row, write_text, written_tables,
 };
 use dict_value::{Bytes, Field, Fields, LineFault, ListOf, NoMemory};
 use std::alloc::Global;
@@ -204,8 +204,12 @@ fn written_rows(rt: HostRuntime) -> Result<(), Fail> {
         write_csv_row(rt.alloc(), fields.as_slice(), &mut out)?;
         assert_eq!(rt; out.as_slice(), csv);
     }
+    let mut out = Bytes::copy_of(rt.alloc(), b"v")?;
+    write_text(b"a\tb\\N", &mut out)?;
+    assert_eq!(rt; out.as_slice(), b"va\\tb\\\\N".as_slice());
     one_list_of_lines();
     one_table();
+    one_decoding();
     written_tables();
     Ok(())
 }

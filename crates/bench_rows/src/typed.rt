@@ -1,0 +1,68 @@
+// All rows of a text as values: a number and a text each.
+use crate::Figures;
+use dict_schema::{Role, Shape, ShapeColumn};
+use dict_value::{AttrType, ColType, Format, ListOf, NoMemory, Row, Rows, Value, default_of};
+use rows_typed::decode;
+use std::alloc::Global;
+
+fn shape(alloc: Global) -> Result<Shape, NoMemory> {
+    let mut shape = ListOf::new(alloc);
+    shape.push(column(alloc, ColType::UInt64, Role::Key))?;
+    shape.push(column(alloc, ColType::Str, Role::Attribute))?;
+    Ok(shape)
+}
+
+fn column(alloc: Global, base: ColType, role: Role) -> ShapeColumn {
+    let ty = AttrType {
+        base,
+        nullable: false,
+    };
+    let default = default_of(alloc, &ty);
+    ShapeColumn { ty, role, default }
+}
+
+/// The figures of a text's rows; those of none where one is bad or the text is too long.
+pub fn read(alloc: Global, text: &[u8]) -> Figures {
+    match rows_of(alloc, text) {
+        Some(rows) => figures(&rows),
+        None => Figures {
+            rows: 0,
+            fields: 0,
+            bytes: 0,
+        },
+    }
+}
+
+fn rows_of(alloc: Global, text: &[u8]) -> Option<Rows> {
+    if text.len() > u32::MAX as usize {
+        return None;
+    }
+    let shape = shape(alloc).ok()?;
+    if shape.len() > 2 {
+        return None;
+    }
+    decode(alloc, &shape, Format::Tab, text).ok()
+}
+
+fn figures(rows: &Rows) -> Figures {
+    let mut found = Figures {
+        rows: rows.len(),
+        fields: 0,
+        bytes: 0,
+    };
+    for row in rows.as_slice() {
+        found.fields = found.fields.saturating_add(row.len());
+        found.bytes = found.bytes.saturating_add(row_bytes(row));
+    }
+    found
+}
+
+fn row_bytes(row: &Row) -> usize {
+    let mut count: usize = 0;
+    for value in row.as_slice() {
+        if let Value::S(text) = value {
+            count = count.saturating_add(text.len());
+        }
+    }
+    count
+}

@@ -1,0 +1,27 @@
+-- The rows of the dictionary that `World::run` loads: a key of type UInt64 and a String with the default ''.
+use Rattle.std.specs.Prelude.{ℕ, List, [], ◌∷◌, false, Option, Some, None, Ok}
+use Rattle.dict_value.specs.declared.fault.Cause.{Cause}
+use Rattle.dict_value.specs.declared.value.ColType.TheVariants.{UInt64}
+use Rattle.dict_value.specs.declared.value.Field.TheVariants as field
+use Rattle.dict_value.specs.declared.value.Format.TheVariants.{Tab}
+use Rattle.dict_value.specs.declared.value.Value.{Value}
+use Rattle.dict_value.specs.declared.value.Value.TheVariants.{S}
+use Rattle.dict_value.specs.Values.{reading}
+use Rattle.row_text.specs.Decoding.{Column, Decodes}
+use Rattle.load_core.specs.FlatRows.{IsRefusedFor, IsTable}
+
+abbrev pub key_value : Column
+key_value seen = reading (record { base = UInt64; nullable = false }) seen
+
+-- NULL gives the default
+abbrev pub text_value : Column
+text_value field.Null = Ok (S [])
+text_value (field.Text text) = Ok (S text)
+
+abbrev pub first_columns : List Column
+first_columns = key_value ∷ text_value ∷ []
+
+-- what the judge says of a text, whatever the dictionary's number
+abbrev pub row_verdicts : ℕ → List ℕ → Option Cause → Type 0
+row_verdicts number text None = (rows : List (List Value)) × IsTable (Decodes Tab first_columns text) rows
+row_verdicts number text (Some cause) = IsRefusedFor (Decodes Tab first_columns text) cause

@@ -1,0 +1,26 @@
+// The rows of the dictionary that `World::run` loads: a key of type UInt64 and a String.
+use dict_value::{BadValue, Bytes, ColType, Field, Value, read_text};
+use row_text::Columns;
+use std::alloc::Global;
+
+/// The key, and the String with the default ''.
+pub struct FirstColumns;
+
+impl Columns for FirstColumns {
+    ghost use Rattle.load_core.specs.FirstRows.{first_columns};
+
+    ghost columns = { λ it. first_columns };
+
+    fn count(&self) -> usize {
+        2
+    }
+
+    fn read(&self, alloc: Global, place: usize, field: Field) -> Result<Value, BadValue> {
+        match (place, field) {
+            (0, Field::Null) => Err(BadValue::NullNotAllowed),
+            (0, Field::Text(text)) => read_text(alloc, ColType::UInt64, text.as_slice()),
+            (_, Field::Null) => Ok(Value::S(Bytes::new(alloc))),
+            (_, Field::Text(text)) => Ok(Value::S(text)),
+        }
+    }
+}

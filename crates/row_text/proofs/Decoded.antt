@@ -1,0 +1,175 @@
+-- A text decoded line by line: what is decoded so far, and what the rest decodes to, is what the whole decodes to.
+use Rattle.std.proofs.Common.{◌≡◌, ◌≢◌, ◌≤◌, ◌<◌, ◌+◌, ◌∷◌, ◌++◌, ◌∙◌, [], ℕ, List, length, refl, sym, ap, subst, inl, inr, arith, append_assoc, true, Result, Ok, Err}
+use Rattle.std.specs.Prelude.{filter}
+use Rattle.std.specs.List.{AllZip, flat_map}
+use Rattle.std.proofs.lemmas.List.{append-nil, length-append}
+use Rattle.std.proofs.lemmas.Bool.{cases_Bool, cases_eq}
+use Rattle.dict_value.specs.declared.fault.LineFault.{LineFault}
+use Rattle.dict_value.specs.declared.fault.LineFault.TheVariants as of_line
+use Rattle.dict_value.specs.declared.value.Field.{Field}
+use Rattle.dict_value.specs.declared.value.Format.{Format}
+use Rattle.dict_value.specs.declared.value.Value.{Value}
+use Rattle.row_text.specs.declared.cutter.CutRule.{CutRule}
+use Rattle.row_text.specs.Letters.{line_feed}
+use Rattle.row_text.specs.Cutting.{BeginsWithLine, IsOpen, IsWhole, ended, keeps_open}
+use Rattle.row_text.specs.Tables.{AreLines, last_line}
+use Rattle.row_text.specs.Decoding.{AreTypedRows, Column, Decodes, HasFields, IsTypedRow, LineGives, StandsBehind, UnlessNoMemory, Unread, Unvalued, is_row_line, most_rows, rule_of}
+use Rattle.row_text.specs.DecodeSteps.{AddsLine, LineBrings, LineDecodes, TakeAll, fault_at, row_fault}
+use Rattle.row_text.specs.TabRow.{GivenMemory}
+use Rattle.row_text.specs.declared.decode.DecodeFault.{DecodeFault}
+use Rattle.row_text.specs.declared.decode.DecodeFault.TheVariants as decode
+use Rattle.row_text.specs.declared.decode.RowFault.{RowFault}
+use Rattle.row_text.specs.declared.decode.RowFault.TheVariants as row
+use Rattle.row_text.proofs.CutSteps.{open-nil, open-push}
+use Rattle.row_text.proofs.Tabled.{one-lines}
+
+-- no text, no line
+lines-nil : (by : CutRule) → AreLines by [] []
+lines-nil by = ([], [], record { joined = refl; whole = tt; opened = open-nil by }, refl)
+
+-- the lines of a text behind a whole one
+lines-whole : (by : CutRule) (line rest : List ℕ) (later : List (List ℕ)) → IsWhole by line → AreLines by rest later → AreLines by (ended line ++ rest) (line ∷ later)
+lines-whole by line rest later whole (rows, left, cuts, are) = (
+  line ∷ rows,
+  left,
+  record {
+    joined = ap (λ (t : List ℕ). ended line ++ t) cuts.joined ∙ sym (append_assoc (ended line) (flat_map ended rows) left);
+    whole = (whole, cuts.whole);
+    opened = cuts.opened;
+  },
+  ap (λ (ls : List (List ℕ)). line ∷ ls) are,
+)
+
+-- bytes in which no row has ended are one line, where there are any
+lines-open : (by : CutRule) (line : List ℕ) → IsOpen by line → AreLines by line (last_line line)
+lines-open by line opened = ([], line, record { joined = refl; whole = tt; opened = opened }, refl)
+
+-- the next byte belongs to the row
+longer : (by : CutRule) (row : List ℕ) (b : ℕ) (text : List ℕ) → (lines : List (List ℕ)) × AreLines by ((row ++ b ∷ []) ++ text) lines → (lines : List (List ℕ)) × AreLines by (row ++ b ∷ text) lines
+longer by row b text (lines, are) = (lines, subst (λ (t : List ℕ). AreLines by t lines) (append_assoc row (b ∷ []) text) are)
+
+-- each text has lines
+pub all-lines : (by : CutRule) (row text : List ℕ) → IsOpen by row → (lines : List (List ℕ)) × AreLines by (row ++ text) lines
+all-lines by row [] opened = (last_line row, subst (λ (t : List ℕ). AreLines by t (last_line row)) (sym (append-nil row)) (lines-open by row opened))
+all-lines by row (b ∷ text) opened = elim (cases_eq b line_feed) [
+  | inl feed ↦ elim (cases_Bool (keeps_open by row)) [
+    | inl kept ↦ longer by row b text (all-lines by (row ++ b ∷ []) text (open-push by row b opened (λ _. kept)))
+    | inr ends ↦
+        let more = all-lines by [] text (open-nil by) in
+        (row ∷ more.0, subst (λ (t : List ℕ). AreLines by t (row ∷ more.0)) (append_assoc row (line_feed ∷ []) text ∙ ap (λ (n : ℕ). row ++ n ∷ text) (sym feed)) (lines-whole by row text more.0 (record { opened = opened; ends = ends }) more.1))
+  ]
+  | inr other ↦ longer by row b text (all-lines by (row ++ b ∷ []) text (open-push by row b opened (λ e. absurd (other e))))
+]
+
+-- the first line of a text, and the lines behind it
+pub lines-first : (by : CutRule) (text line rest : List ℕ) (later : List (List ℕ)) → text ≢ [] → BeginsWithLine by text line rest → AreLines by rest later → AreLines by text (line ∷ later)
+lines-first by text line rest later some (inl (whole, is)) are = subst (λ (t : List ℕ). AreLines by t (line ∷ later)) (sym is) (lines-whole by line rest later whole are)
+lines-first by [] line rest later some (inr (opened, is, none)) are = absurd (some refl)
+lines-first by (b ∷ text) line rest later some (inr (opened, is, none)) are =
+    let ends : later ≡ [] = one-lines by [] later [] (subst (λ (t : List ℕ). AreLines by t later) none are) (lines-nil by) in
+    subst (λ (ls : List (List ℕ)). AreLines by (b ∷ text) ls) (ap (λ (l : List ℕ). l ∷ []) is ∙ ap (λ (ls : List (List ℕ)). line ∷ ls) (sym ends))
+    (lines-open by (b ∷ text) (subst (IsOpen by) (sym is) opened))
+
+-- the lines before what is left are so many, and have these rows
+pub record Done (format : Format) (columns : List Column) (text left : List ℕ) (number : ℕ) (rows : List (List Value)) : Type 0 where
+  pub lines : List (List ℕ)
+  pub typed : AreTypedRows format columns lines rows
+  pub counted : number ≡ length lines
+  pub onward : (later : List (List ℕ)) → AreLines (rule_of format) left later → AreLines (rule_of format) text (lines ++ later)
+
+-- nothing is decoded
+pub done-none : (format : Format) (columns : List Column) (text : List ℕ) → Done format columns text text 0 []
+done-none format columns text = record { lines = []; typed = tt; counted = refl; onward = λ later are. are }
+
+-- one more line and its row
+typed-row : (R : List ℕ → List Value → Type 0) (lines : List (List ℕ)) (rows : List (List Value)) (line : List ℕ) (row : List Value) → AllZip R lines rows → R line row → AllZip R (lines ++ line ∷ []) (rows ++ row ∷ [])
+typed-row R [] [] line row typed here = (here, tt)
+typed-row R [] (r ∷ rows) line row typed here = absurd typed
+typed-row R (l ∷ lines) [] line row typed here = absurd typed
+typed-row R (l ∷ lines) (r ∷ rows) line row typed here = (typed.0, typed-row R lines rows line row typed.1 here)
+
+filter-push : (format : Format) (lines : List (List ℕ)) (line : List ℕ) → filter (is_row_line format) (lines ++ line ∷ []) ≡ filter (is_row_line format) lines ++ filter (is_row_line format) (line ∷ [])
+filter-push format [] line = refl
+filter-push format (l ∷ lines) line = elim (cases_Bool (is_row_line format l)) [
+  | inl yes' ↦ rw yes' (ap (λ (ls : List (List ℕ)). l ∷ ls) (filter-push format lines line))
+  | inr no' ↦ rw no' (filter-push format lines line)
+]
+
+typed-more : (format : Format) (columns : List Column) (lines : List (List ℕ)) (line : List ℕ) (rows new : List (List Value)) → AreTypedRows format columns lines rows → AddsLine format columns line rows new → AreTypedRows format columns (lines ++ line ∷ []) new
+typed-more format columns lines line rows new typed (inl (blank, same)) =
+    let kept : filter (is_row_line format) (line ∷ []) ≡ [] = rw blank refl in
+    rw (filter-push format lines line, kept, append-nil (filter (is_row_line format) lines), same) typed
+typed-more format columns lines line rows new typed (inr (is, few, (values, row, same))) =
+    let kept : filter (is_row_line format) (line ∷ []) ≡ line ∷ [] = rw is refl in
+    rw (filter-push format lines line, kept, same) (typed-row (IsTypedRow format columns) (filter (is_row_line format) lines) rows line values typed row)
+
+pub done-more : (format : Format) (columns : List Column) (text left line rest : List ℕ) (number : ℕ) (rows new : List (List Value)) → left ≢ [] → BeginsWithLine (rule_of format) left line rest
+    → Done format columns text left number rows → AddsLine format columns line rows new → Done format columns text rest (number + 1) new
+done-more format columns text left line rest number rows new some begins d adds = record {
+  lines = d.lines ++ line ∷ [];
+  typed = typed-more format columns d.lines line rows new d.typed adds;
+  counted = omega (arith, d.counted, length-append d.lines (line ∷ []));
+  onward = λ later are. subst (AreLines (rule_of format) text) (sym (append_assoc d.lines (line ∷ []) later)) (d.onward (line ∷ later) (lines-first (rule_of format) left line rest later some begins are));
+}
+
+-- the next line stands behind what is decoded
+pub done-behind : (format : Format) (columns : List Column) (text left line rest : List ℕ) (number : ℕ) (rows : List (List Value)) → left ≢ [] → BeginsWithLine (rule_of format) left line rest
+    → Done format columns text left number rows → is_row_line format line ≡ true → (stands : StandsBehind format columns text rows line) × (number + 1 ≡ length stands.before + 1)
+done-behind format columns text left line rest number rows some begins d is =
+    let later = all-lines (rule_of format) [] rest (open-nil (rule_of format)) in (
+      record {
+        before = d.lines;
+        after = later.0;
+        cut = d.onward (line ∷ later.0) (lines-first (rule_of format) left line rest later.0 some begins later.1);
+        typed = d.typed;
+        is_row = is;
+      },
+      ap (λ (n : ℕ). n + 1) d.counted,
+    )
+
+-- nothing is left
+pub done-all : (format : Format) (columns : List Column) (text left : List ℕ) (number : ℕ) (rows : List (List Value)) → left ≡ [] → Done format columns text left number rows
+    → (lines : List (List ℕ)) × AreLines (rule_of format) text lines × AreTypedRows format columns lines rows
+done-all format columns text left number rows none d =
+    (d.lines, subst (AreLines (rule_of format) text) (append-nil d.lines) (d.onward [] (subst (λ (t : List ℕ). AreLines (rule_of format) t []) (sym none) (lines-nil (rule_of format)))), d.typed)
+
+-- the fault of the next line is that of the text
+pub done-fault : (format : Format) (columns : List Column) (text left line rest : List ℕ) (number : ℕ) (rows new : List (List Value)) → left ≢ [] → BeginsWithLine (rule_of format) left line rest
+    → Done format columns text left number rows → (fault : DecodeFault) → LineBrings format columns line (number + 1) rows (Err fault) new
+    → UnlessNoMemory {A = List (List Value)} (Err fault) (Decodes format columns text (Err fault))
+done-fault format columns text left line rest number rows new some begins d (decode.Bad bad) (is, room, at, reason) =
+    let behind = done-behind format columns text left line rest number rows some begins d is in
+    record { rows = rows; line = line; stands = behind.0; room = room; numbered = at ∙ behind.1; reason = reason }
+done-fault format columns text left line rest number rows new some begins d decode.TooMany (is, full) =
+    record { rows = rows; line = line; stands = (done-behind format columns text left line rest number rows some begins d is).0; full = full }
+done-fault format columns text left line rest number rows new some begins d decode.NoMemory found = tt
+
+-- the fault of a line
+pub line-unread : (format : Format) (columns : List Column) (line : List ℕ) (fault : LineFault) → GivenMemory {A = List Field} (Err fault) (LineGives format line (Err fault)) → LineDecodes format columns line (Err (row_fault fault))
+line-unread format columns line (of_line.BadEscape place) gives = Unread (of_line.BadEscape place) gives refl refl
+line-unread format columns line of_line.CarriageReturn gives = Unread of_line.CarriageReturn gives refl refl
+line-unread format columns line of_line.NotOneRecord gives = Unread of_line.NotOneRecord gives refl refl
+line-unread format columns line of_line.NoMemory gives = tt
+
+-- the fields of a line and what the columns make of them
+pub line-valued : (format : Format) (columns : List Column) (line : List ℕ) (fields : List Field) → HasFields format columns line fields → (made : Result (List Value) RowFault) → TakeAll columns fields made → LineDecodes format columns line made
+line-valued format columns line fields has (Ok values) taken = (fields, has, taken)
+line-valued format columns line fields has (Err (row.Bad column reason)) (before, fault, after, parts, at, why') = Unvalued fields before fault after has parts at why'
+line-valued format columns line fields has (Err row.NoMemory) taken = tt
+
+-- the fault of the line of this number
+pub line-fault : (format : Format) (columns : List Column) (line : List ℕ) (number : ℕ) (old new : List (List Value)) → is_row_line format line ≡ true → length old < most_rows → (fault : RowFault)
+    → LineDecodes format columns line (Err fault) → LineBrings format columns line number old (Err (fault_at number fault)) new
+line-fault format columns line number old new is room (row.Bad column reason) found = (is, room, refl, found)
+line-fault format columns line number old new is room row.NoMemory found = tt
+
+-- what stands behind the first line is shorter
+pub rest-shorter : (by : CutRule) (text line rest : List ℕ) → text ≢ [] → BeginsWithLine by text line rest → length rest < length text
+rest-shorter by text line rest some (inl (whole, is)) = omega (arith, ap length is, length-append (ended line) rest, length-append line (line_feed ∷ []))
+rest-shorter by [] line rest some (inr (opened, is, none)) = absurd (some refl)
+rest-shorter by (b ∷ text) line rest some (inr (opened, is, none)) = omega (arith, ap length none)
+
+-- one more line brings one row more at most, and none to a full list
+pub rows-few : (format : Format) (columns : List Column) (line : List ℕ) (old new : List (List Value)) → length old ≤ most_rows → AddsLine format columns line old new → length new ≤ most_rows
+rows-few format columns line old new few (inl (blank, same)) = omega (arith, ap length same)
+rows-few format columns line old new few (inr (is, room, (values, row, same))) = omega (arith, ap length same, length-append old (values ∷ []))

@@ -1,0 +1,14 @@
+use Rattle.std.proofs.Common.{◌≤◌, ◌+◌, length}
+use Rattle.row_text.specs.Decoding.{most_rows}
+use Rattle.row_text.proofs.Decoded.{Done}
+use Rattle.row_text.proofs.decode.decode_rows.Given as goal
+
+abbrev pub invariant-loop-left : goal.invariant-loop-left
+invariant-loop-left g l = record {
+  done : Done l.format (g.C.Columns.columns l.columns) l.text l.left l.number l.rows;
+  few : length l.rows ≤ most_rows;
+  within : l.number + length l.left ≤ length l.text;
+}
+
+abbrev pub decreases-loop-left : goal.decreases-loop-left
+decreases-loop-left g l = length l.left

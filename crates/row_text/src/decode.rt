@@ -1,0 +1,225 @@
+// Whole texts, decoded row by row into values.
+ghost use Rattle.std.specs.Prelude.{◌≡◌, ◌<◌, ◌≤◌, List, length};
+ghost use Rattle.dict_value.specs.declared.value.Format.{Format};
+ghost use Rattle.row_text.specs.Decoding.{Decodes, LineGives, UnlessNoMemory, is_row_line, most_rows, rule_of};
+ghost use Rattle.row_text.specs.DecodeSteps.{LineBrings, LineDecodes, TakeAll, column_fault, fault_at, row_fault};
+ghost use Rattle.row_text.specs.TabRow.{GivenMemory};
+
+use crate::csv_row::{is_blank, read_csv_row};
+use crate::cutter::{CutRule, first_line};
+use crate::tab_row::read_fields;
+use dict_value::{
+    BadRow, BadValue, Field, Fields, Format, LineFault, ListOf, Row, Rows, Value, Why,
+};
+use std::alloc::Global;
+
+/// The greatest number of rows of a version.
+pub const MOST_ROWS: usize = 4_194_304;
+
+/// Why a text has no rows.
+#[derive(Clone, Copy, Debug, PartialEq, Eq)]
+pub enum DecodeFault {
+    /// The first bad row.
+    Bad(BadRow),
+    /// A row stands behind as many as a version may have, and none of those is bad.
+    TooMany,
+    NoMemory,
+}
+
+/// The columns of a table.
+pub trait Columns {
+    ghost use Rattle.std.specs.Prelude.{◌≡◌, ◌<◌, List, Some, length, slice_get};
+    ghost use Rattle.row_text.specs.Decoding.{Column, Takes};
+
+    /// What each column makes of a field.
+    ghost columns: { Self → List Column };
+
+    /// How many columns there are.
+    fn count(&self) -> usize
+        ensures { result ≡ length (columns self.now) };
+
+    /// What the column at a place makes of a field.
+    fn read(&self, alloc: Global, place: usize, field: Field) -> Result<Value, BadValue>
+        ensures { (column : Column) → slice_get (columns self.now) place ≡ Some column → Takes column field result };
+}
+
+/// The typed rows of a whole text, or its first bad row, or that it has too many.
+pub fn decode_rows<C: Columns>(
+    alloc: Global,
+    format: Format,
+    columns: &C,
+    text: &[u8],
+) -> Result<Rows, DecodeFault>
+    requires bytes { length text.now ≤ 4294967295 }
+    requires columns { length (C.columns columns.now) ≤ 4294967295 }
+    ensures { UnlessNoMemory result (Decodes format (C.columns columns.now) text.now result) }
+{
+    let rule = rule_for(format);
+    let mut rows = ListOf::new(alloc);
+    let mut number = 0;
+    let mut left = text;
+    while !left.is_empty() {
+        let (line, rest) = first_line(rule, left);
+        number += 1;
+        match take_line(alloc, format, columns, line, number, &mut rows) {
+            Ok(()) => {}
+            Err(fault) => return Err(fault),
+        }
+        left = rest;
+    }
+    Ok(rows)
+}
+
+/// Which line feeds end a row.
+fn rule_for(format: Format) -> CutRule
+    ensures { result ≡ rule_of format }
+{
+    match format {
+        Format::Tab => CutRule::Tab,
+        Format::Csv => CutRule::Csv,
+    }
+}
+
+/// Adds the row of a line, the one of this number in its text; a blank line of CSV has none.
+fn take_line<C: Columns>(
+    alloc: Global,
+    format: Format,
+    columns: &C,
+    line: &[u8],
+    number: u32,
+    rows: &mut Rows,
+) -> Result<(), DecodeFault>
+    requires bytes { length line.now ≤ 4294967295 }
+    requires columns { length (C.columns columns.now) ≤ 4294967295 }
+    requires few { length rows.old ≤ most_rows }
+    ensures { LineBrings format (C.columns columns.now) line.now number rows.old result rows.new }
+{
+    if !is_row(format, line) {
+        return Ok(());
+    }
+    if rows.len() == MOST_ROWS {
+        return Err(DecodeFault::TooMany);
+    }
+    match read_row(alloc, format, columns, line) {
+        Ok(row) => match rows.push(row) {
+            Ok(()) => Ok(()),
+            Err(_) => Err(DecodeFault::NoMemory),
+        },
+        Err(fault) => Err(at_line(number, fault)),
+    }
+}
+
+/// Whether a line stands for a row; a blank line of CSV doesn't.
+fn is_row(format: Format, line: &[u8]) -> bool
+    ensures { result ≡ is_row_line format line.now }
+{
+    match format {
+        Format::Tab => true,
+        Format::Csv => !is_blank(line),
+    }
+}
+
+/// The fault of the line of this number as that of its text.
+fn at_line(number: u32, fault: RowFault) -> DecodeFault
+    ensures { result ≡ fault_at number fault }
+{
+    match fault {
+        RowFault::Bad { column, why } => DecodeFault::Bad(BadRow {
+            line: number,
+            column,
+            why,
+        }),
+        RowFault::NoMemory => DecodeFault::NoMemory,
+    }
+}
+
+/// Why a line is no row: at a column from 1, or at 0 for the line as a whole.
+enum RowFault {
+    Bad { column: u32, why: Why },
+    NoMemory,
+}
+
+/// The row of a line.
+fn read_row<C: Columns>(
+    alloc: Global,
+    format: Format,
+    columns: &C,
+    line: &[u8],
+) -> Result<Row, RowFault>
+    requires bytes { length line.now ≤ 4294967295 }
+    requires columns { length (C.columns columns.now) ≤ 4294967295 }
+    ensures { LineDecodes format (C.columns columns.now) line.now result }
+{
+    let fields = match line_fields(alloc, format, line) {
+        Ok(fields) => fields,
+        Err(fault) => return Err(of_line(fault)),
+    };
+    if fields.len() != columns.count() {
+        let told = fields.len().min(u32::MAX as usize) as u32;
+        return Err(RowFault::Bad {
+            column: 0,
+            why: Why::FieldCount(told),
+        });
+    }
+    read_values(alloc, columns, fields)
+}
+
+/// The fields of a line.
+fn line_fields(alloc: Global, format: Format, line: &[u8]) -> Result<Fields, LineFault>
+    requires { length line.now ≤ 4294967295 }
+    ensures { GivenMemory result (LineGives format line.now result) }
+{
+    match format {
+        Format::Tab => read_fields(alloc, line),
+        Format::Csv => read_csv_row(alloc, line),
+    }
+}
+
+/// A line's fault as that of a row.
+fn of_line(fault: LineFault) -> RowFault
+    ensures { result ≡ row_fault fault }
+{
+    let why = match fault {
+        LineFault::BadEscape(place) => Why::Escape(place),
+        LineFault::CarriageReturn => Why::CarriageReturn,
+        LineFault::NotOneRecord => Why::NotOneRecord,
+        LineFault::NoMemory => return RowFault::NoMemory,
+    };
+    RowFault::Bad { column: 0, why }
+}
+
+/// A fault of the column at a place, from 0, as that of a row.
+fn of_column(place: usize, fault: BadValue) -> RowFault
+    requires { place < 4294967295 }
+    ensures { result ≡ column_fault place fault }
+{
+    match fault {
+        BadValue::NoMemory => RowFault::NoMemory,
+        _ => RowFault::Bad {
+            column: place as u32 + 1,
+            why: Why::Value(fault),
+        },
+    }
+}
+
+/// The values of as many fields as there are columns.
+fn read_values<C: Columns>(alloc: Global, columns: &C, fields: Fields) -> Result<Row, RowFault>
+    requires count { length fields ≡ length (C.columns columns.now) }
+    requires columns { length (C.columns columns.now) ≤ 4294967295 }
+    ensures { TakeAll (C.columns columns.now) fields result }
+{
+    let Ok(mut row) = ListOf::with_room(alloc, fields.len()) else {
+        return Err(RowFault::NoMemory);
+    };
+    for field in fields.into_vec() {
+        let value = match columns.read(alloc, row.len(), field) {
+            Ok(value) => value,
+            Err(fault) => return Err(of_column(row.len(), fault)),
+        };
+        match row.push(value) {
+            Ok(()) => {}
+            Err(_) => return Err(RowFault::NoMemory),
+        }
+    }
+    Ok(row)
+}

@@ -1,0 +1,30 @@
+-- Values that fit the columns of a shape.
+use Rattle.std.specs.Prelude.{◌||◌, Bool, true, false, IsTrue, List}
+use Rattle.std.specs.List.{AllByRecursion, AllZip}
+use Rattle.dict_schema.specs.declared.definition.Role.{Role}
+use Rattle.dict_schema.specs.declared.definition.Role.TheVariants as role
+use Rattle.dict_schema.specs.declared.definition.ShapeColumn.{ShapeColumn}
+use Rattle.dict_value.specs.declared.value.AttrType.{AttrType}
+use Rattle.dict_value.specs.declared.value.Value.{Value}
+use Rattle.dict_value.specs.declared.value.Value.TheVariants.{Null}
+use Rattle.dict_value.specs.Values.{FitsColumn, HasType}
+
+-- whether a column is an end of a range
+abbrev pub is_end : Role → Bool
+is_end role.Start = true
+is_end role.End = true
+is_end role.Key = false
+is_end role.Attribute = false
+
+-- a value of the type, or Null where the type allows it or the column is an end of a range
+abbrev pub FitsRole : Role → AttrType → Value → Type 0
+FitsRole role t Null = IsTrue (is_end role || t.nullable)
+FitsRole role t v = HasType t.base v
+
+-- the row has a value for each column, and each fits
+abbrev pub FitsShape : List ShapeColumn → List Value → Type 0
+FitsShape shape row = AllZip (λ column v. FitsRole column.role column.ty v) shape row
+
+-- each default fits the type of its column
+abbrev pub HasFittingDefaults : List ShapeColumn → Type 0
+HasFittingDefaults shape = AllByRecursion (λ (column : ShapeColumn). FitsColumn column.ty column.default) shape

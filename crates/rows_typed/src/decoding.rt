@@ -1,0 +1,29 @@
+// Whole texts as typed rows.
+ghost use Rattle.std.specs.Prelude.{◌≤◌, length};
+ghost use Rattle.row_text.specs.Decoding.{UnlessNoMemory};
+ghost use Rattle.rows_typed.specs.Shapes.{Decode};
+
+use crate::columns::ShapeColumns;
+use dict_schema::Shape;
+use dict_value::{Format, Rows};
+use row_text::{DecodeFault, decode_rows};
+use std::alloc::Global;
+
+/// The typed rows of a text; else its first bad row, or that it has more rows than a version may have.
+/// A line counts from 1, and so does a column; column 0 is the row as a whole.
+pub fn decode(
+    alloc: Global,
+    shape: &Shape,
+    format: Format,
+    text: &[u8],
+) -> Result<Rows, DecodeFault>
+    requires bytes { length text.now ≤ 4294967295 }
+    requires columns { length shape.now ≤ 4294967295 }
+    ensures { UnlessNoMemory result (Decode shape.now format text.now result) }
+{
+    let columns = ShapeColumns {
+        shape: shape.as_slice(),
+        format,
+    };
+    decode_rows(alloc, format, &columns, text)
+}
