@@ -5,20 +5,23 @@ use dict_value::{AttrType, ColType, Format, ListOf, NoMemory, Row, Rows, Value, 
 use rows_typed::decode;
 use std::alloc::Global;
 
+/// The columns that a row has.
+const COLUMNS: [(ColType, Role); 2] = [
+    (ColType::UInt64, Role::Key),
+    (ColType::Str, Role::Attribute),
+];
+
 fn shape(alloc: Global) -> Result<Shape, NoMemory> {
     let mut shape = ListOf::new(alloc);
-    shape.push(column(alloc, ColType::UInt64, Role::Key))?;
-    shape.push(column(alloc, ColType::Str, Role::Attribute))?;
+    for (base, role) in COLUMNS {
+        let ty = AttrType {
+            base,
+            nullable: false,
+        };
+        let default = default_of(alloc, &ty);
+        shape.push(ShapeColumn { ty, role, default })?;
+    }
     Ok(shape)
-}
-
-fn column(alloc: Global, base: ColType, role: Role) -> ShapeColumn {
-    let ty = AttrType {
-        base,
-        nullable: false,
-    };
-    let default = default_of(alloc, &ty);
-    ShapeColumn { ty, role, default }
 }
 
 /// The figures of a text's rows; those of none where one is bad or the text is too long.
@@ -38,7 +41,8 @@ fn rows_of(alloc: Global, text: &[u8]) -> Option<Rows> {
         return None;
     }
     let shape = shape(alloc).ok()?;
-    if shape.len() > 2 {
+    // A shape has fewer columns than numbers of 32 bits; this tells the prover so.
+    if shape.len() > COLUMNS.len() {
         return None;
     }
     decode(alloc, &shape, Format::Tab, text).ok()

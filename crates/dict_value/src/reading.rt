@@ -1,6 +1,6 @@
 // A value from a field, and the value that stands where none is given.
 ghost use Rattle.std.specs.Prelude.{◌≡◌, ℕ, List, IfOk, Ok};
-ghost use Rattle.dict_value.specs.Values.{text_reading, as_value, Gives, GivesText, default_value, default_of_column, FitsColumn, HasType, text_of};
+ghost use Rattle.dict_value.specs.Values.{text_reading, Gives, GivesText, default_of_column, FitsColumn, HasType, text_of};
 ghost use Rattle.dict_value.specs.declared.value.ColType.{ColType};
 ghost use Rattle.dict_value.specs.declared.value.Value.{Value};
 ghost use Rattle.dict_value.specs.declared.value.Value.TheVariants.{S};

@@ -1,10 +1,10 @@
 // Values, texts and faults from outside: the calendar, RFC 5952, and arithmetic by hand.
 ghost use Rattle.std.specs.Prelude.{◌≡◌, ◌<◌, length};
 
-use crate::value::{AttrType, BadValue, ColType, Field, Value, same_value};
+use crate::value::{AttrType, BadValue, ColType, Field, Value, copy_value, same_value};
 use crate::{
-    Address, Bytes, Counted, ListOf, Prefix, Steps, default_of, read_address, read_prefix,
-    read_value, write_value,
+    Address, Bytes, Counted, ListOf, Prefix, Steps, addresses_by_grammar, default_of, read_address,
+    read_is_typed, read_prefix, read_text, read_value, write_value, written_is_read,
 };
 use std::alloc::Global;
 use std::marker::Brand;
@@ -616,6 +616,40 @@ fn strings_and_nulls(rt: HostRuntime) {
         };
         assert_eq!(rt; seen_of(&default_of(alloc, &t)), want);
     }
+}
+
+#[test]
+fn copies_and_texts(rt: HostRuntime) -> Result<(), Fail> {
+    let alloc = rt.alloc();
+    let text = Bytes::copy_of(alloc, b"a\0b")?;
+    let values = [
+        Value::Null,
+        Value::U(7),
+        Value::I(-7),
+        Value::S(text),
+        Value::Day(3),
+        Value::Second(4),
+        Value::Id(5),
+        Value::V4(6),
+        Value::V6(8),
+        Value::Dec(-9),
+    ];
+    for value in &values {
+        assert!(rt; same_value(&copy_value(alloc, value)?, value));
+    }
+    let read = read_text(alloc, ColType::Str, b" x\t");
+    assert!(rt; matches!(&read, Ok(Value::S(text)) if text.as_slice() == b" x\t".as_slice()));
+    assert!(rt; matches!(read_text(alloc, ColType::Int8, b"-128"), Ok(Value::I(-128))));
+    assert!(rt;
+        matches!(
+            read_text(alloc, ColType::Int8, b"128"),
+            Err(BadValue::OutOfRange)
+        )
+    );
+    addresses_by_grammar();
+    read_is_typed();
+    written_is_read();
+    Ok(())
 }
 
 #[test]

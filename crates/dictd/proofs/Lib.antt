@@ -5,5 +5,6 @@ pub mod Doubling
 pub mod Fields
 pub mod FileTexts
 pub mod Lines
+pub mod OneEnd
 pub mod Requesting
 pub mod Runs

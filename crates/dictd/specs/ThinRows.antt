@@ -38,10 +38,10 @@ has_key key (U n ∷ values) = n == key
 has_key key _ = false
 
 -- the text behind a row's key
-abbrev pub row_text : List Value → List ℕ
-row_text (key ∷ S text ∷ values) = text
-row_text _ = []
+abbrev pub text_behind_key : List Value → List ℕ
+text_behind_key (key ∷ S text ∷ values) = text
+text_behind_key _ = []
 
 -- the text of the first row with the key, or the default
 abbrev pub text_at : Table → ℕ → List ℕ
-text_at rows key = option_map_or row_text (find (has_key key) rows) []
+text_at rows key = option_map_or text_behind_key (find (has_key key) rows) []

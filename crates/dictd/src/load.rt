@@ -3,7 +3,6 @@ ghost use Rattle.std.specs.Prelude.{◌≡◌, ◌<◌, ◌≤◌, ◌∷◌, []
 ghost use Rattle.std.specs.Result.{ForOk};
 ghost use Rattle.load_core.specs.DictSteps.{empty_core};
 ghost use Rattle.dict_schema.specs.declared.definition.ShapeColumn.{ShapeColumn};
-ghost use Rattle.child_io.specs.declared.pieces.Gathered.{Gathered as GatheredBytes};
 ghost use Rattle.load_core.specs.declared.dictionary.Phase.TheVariants.{Reading};
 ghost use Rattle.dictd.specs.Loads.{Loads, core_after, end_events, IsOrigin, IsIdle};
 ghost use Rattle.load_core.specs.declared.dictionary.DictEvent.TheVariants.{Finish, Post};
@@ -15,7 +14,7 @@ use crate::ending::LoadEnd;
 use child_io::{Gathered, PieceEnd, Pieces, Spawner, run_pieces};
 use dict_schema::{Role, Shape, ShapeColumn};
 use dict_value::{
-    AttrType, Bytes, Cause, ColType, Exit, Format, ListOf, NoMemory, Rows, Value, default_of,
+    AttrType, Bytes, Cause, ColType, Exit, Format, ListOf, NoMemory, Rows, default_of,
 };
 use load_core::{DictCore, DictEffect, DictEvent, Ending, TableFault, accept};
 use rows_typed::decode;
@@ -118,7 +117,7 @@ fn judge(
     }
 }
 
-/// The same of a child that ended with a status.
+/// What a child gives that printed this and ended with this status.
 fn judge_rows(
     alloc: Global,
     shape: &Shape,

@@ -116,6 +116,7 @@ fn serve<S: Spawner, W: ChildWords, I: Source, O: Sink>(
         &asked,
         reply,
     );
+    // Its clause says that each version has its origin.
     let _published = dictionary.versions.number();
     status_of(served, asked.end)
 }

@@ -1,8 +1,8 @@
 // Replies, composed in a buffer that is used again for each of them.
-ghost use Rattle.std.specs.Prelude.{◌≡◌, ◌++◌, ◌∷◌, [], ◌==◌, IsOk, OnOk, OnErr, find, codes};
+ghost use Rattle.std.specs.Prelude.{◌≡◌, ◌++◌, ◌∷◌, [], OnOk, find, codes};
 ghost use Rattle.std.specs.Option.{option_copied};
-ghost use Rattle.dictd.specs.Requests.{IsValue, refusal, version_name, load_reply, value_text};
-ghost use Rattle.dictd.specs.ThinRows.{has_key, row_text, text_at};
+ghost use Rattle.dictd.specs.Requests.{version_name, load_reply, value_text};
+ghost use Rattle.dictd.specs.ThinRows.{has_key, text_at, text_behind_key};
 
 use crate::ending::LoadEnd;
 use dict_value::{Bytes, NoMemory, Row, Value};
@@ -33,8 +33,8 @@ fn find_row(rows: &[Row], key: u64) -> Option<&Row>
 }
 
 /// The text behind a row's key.
-fn row_text(row: &Row) -> &[u8]
-    ensures { result.now ≡ row_text row.now }
+fn text_behind_key(row: &Row) -> &[u8]
+    ensures { result.now ≡ text_behind_key row.now }
 {
     match row.as_slice() {
         [_, Value::S(text), ..] => text.as_slice(),
@@ -47,7 +47,7 @@ pub fn first_text(rows: &[Row], key: u64) -> &[u8]
     ensures { result.now ≡ text_at rows.now key }
 {
     match find_row(rows, key) {
-        Some(row) => row_text(row),
+        Some(row) => text_behind_key(row),
         None => b"",
     }
 }

@@ -1,4 +1,5 @@
 // Runs of `once` over objects in memory.
+use crate::laws::{one_judgement, one_load_end};
 use crate::once::{Status, once};
 use child_io::{MemorySpawner, Script};
 use dict_io::{MemoryClock, MemoryShelf, MemorySink, MemorySource, NamedFile};
@@ -249,6 +250,8 @@ fn reloads_publish_or_leave_the_version(rt: HostRuntime) -> Result<(), Fail> {
     for case in &cases {
         check(&rt, rt.alloc(), case)?;
     }
+    one_judgement();
+    one_load_end();
     Ok(())
 }
 

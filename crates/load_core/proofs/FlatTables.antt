@@ -1,15 +1,10 @@
 -- The first large key of rows.
-use Rattle.std.proofs.Common.{◌≡◌, ℕ, ◌+◌, ◌<◌, ◌≤◌, suc, List, [], ◌∷◌, ◌++◌, length, get_or, take, drop, Result, Ok, Err, sym, ◌∙◌, ap, subst, inl, inr, add-one, drop-cons}
+use Rattle.std.proofs.Common.{◌≡◌, ℕ, ◌+◌, ◌<◌, ◌≤◌, suc, List, [], ◌∷◌, ◌++◌, length, get_or, take, drop, sym, ◌∙◌, ap, subst, add-one, drop-cons}
 use Rattle.std.specs.List.{AllByRecursion}
 use Rattle.std.proofs.lemmas.List.{take-append-drop, take_more}
 use Rattle.dict_value.proofs.Cuts.{AllByRecursion-append}
 use Rattle.dict_value.specs.declared.value.Value.{Value}
-use Rattle.row_text.specs.declared.decode.DecodeFault.{DecodeFault}
-use Rattle.row_text.specs.declared.decode.DecodeFault.TheVariants as decode
-use Rattle.row_text.specs.Decoding.{UnlessNoMemory}
-use Rattle.load_core.specs.declared.flat.TableFault.{TableFault}
-use Rattle.load_core.specs.declared.flat.TableFault.TheVariants as table
-use Rattle.load_core.specs.FlatRows.{Decoded, HasKey, HasSmallKey, IsFirstLarge, IsRefusedFor, IsTable, Makes, first_large_key}
+use Rattle.load_core.specs.FlatRows.{HasKey, HasSmallKey, IsFirstLarge, key_bound}
 
 -- one more row with a small key
 pub small-more : (rows : List (List Value)) (i : ℕ) (row : List Value) → i < length rows → row ≡ get_or rows i row → AllByRecursion HasSmallKey (take i rows) → HasSmallKey row → AllByRecursion HasSmallKey (take (i + 1) rows)
@@ -18,7 +13,7 @@ small-more rows i row within here small last =
     (AllByRecursion-append HasSmallKey (take i rows) (row ∷ []) small (last, tt))
 
 -- the first row of a list that has a large key
-pub first-large : (rows : List (List Value)) (i key : ℕ) (row : List Value) → i < length rows → row ≡ get_or rows i row → AllByRecursion HasSmallKey (take i rows) → HasKey row key → first_large_key ≤ key → IsFirstLarge rows key
+pub first-large : (rows : List (List Value)) (i key : ℕ) (row : List Value) → i < length rows → row ≡ get_or rows i row → AllByRecursion HasSmallKey (take i rows) → HasKey row key → key_bound ≤ key → IsFirstLarge rows key
 first-large rows i key row within here small has large = record {
   before = take i rows;
   row = row;

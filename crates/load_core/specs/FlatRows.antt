@@ -15,15 +15,15 @@ abbrev pub Decoded : Type 1
 Decoded = Result (List (List Value)) DecodeFault → Type 0
 
 -- the least number that is no key of a flat layout of the default size
-abbrev pub first_large_key : ℕ
-first_large_key = 500000
+abbrev pub key_bound : ℕ
+key_bound = 500000
 
 -- the row's first value is this key
 abbrev pub HasKey : List Value → ℕ → Type 0
 HasKey row key = (values : List Value) × (row ≡ U key ∷ values)
 
 abbrev pub HasSmallKey : List Value → Type 0
-HasSmallKey row = (key : ℕ) → HasKey row key → key < first_large_key
+HasSmallKey row = (key : ℕ) → HasKey row key → key < key_bound
 
 -- this is the first key that a flat layout doesn't take
 pub record IsFirstLarge (rows : List (List Value)) (key : ℕ) : Type 0 where
@@ -33,7 +33,7 @@ pub record IsFirstLarge (rows : List (List Value)) (key : ℕ) : Type 0 where
   pub parts : rows ≡ before ++ row ∷ after
   pub small : AllByRecursion HasSmallKey before
   pub here : HasKey row key
-  pub large : first_large_key ≤ key
+  pub large : key_bound ≤ key
 
 -- the rows that a text decodes to, each with a key that the layout takes
 pub record IsTable (decodes : Decoded) (rows : List (List Value)) : Type 0 where

@@ -1,6 +1,6 @@
 pub mod CallerSteps
 pub mod DictSteps
-pub mod FirstRows
+pub mod WorldRows
 pub mod FlatRows
 pub mod Laws
 pub mod WorldSteps

@@ -7,7 +7,7 @@ use dict_value::{Cause, Row, Rows, Value};
 use row_text::DecodeFault;
 
 /// The least number that is no key of a flat layout.
-pub const FIRST_LARGE_KEY: u64 = 500_000;
+const KEY_BOUND: u64 = 500_000;
 
 /// Why a text gives no table.
 #[derive(Clone, Copy, Debug, PartialEq, Eq)]
@@ -18,10 +18,10 @@ pub enum TableFault {
 
 /// The row's key, where a flat layout doesn't take it.
 fn large_key(row: &[Value]) -> Option<u64>
-    ensures { MatchOption result (HasSmallKey row.now) (λ key. HasKey row.now key × (FIRST_LARGE_KEY ≤ key)) }
+    ensures { MatchOption result (HasSmallKey row.now) (λ key. HasKey row.now key × (KEY_BOUND ≤ key)) }
 {
     match row {
-        [Value::U(key), ..] if *key >= FIRST_LARGE_KEY => Some(*key),
+        [Value::U(key), ..] if *key >= KEY_BOUND => Some(*key),
         _ => None,
     }
 }

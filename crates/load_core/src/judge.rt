@@ -14,7 +14,7 @@ pub trait Judge {
 pub struct RowJudge;
 
 impl Judge for RowJudge {
-    ghost use Rattle.load_core.specs.FirstRows.{row_verdicts};
+    ghost use Rattle.load_core.specs.WorldRows.{row_verdicts};
 
     ghost judges = { row_verdicts };
 }

@@ -1,5 +1,8 @@
 // What holds over every list of events.
 ghost use Rattle.load_core.specs.Laws.{EachDict, Grows, IsNumbered, IsRising, IsCounted, IsPosted, OneLoadEach, FailingKeeps, PublishedClears, RefusedKeeps, LengthsAtEnter, NeverFall, NeverOlder, NeverBelowLearnt};
+ghost use Rattle.std.specs.Prelude.{◌≡◌, ℕ, List, Option};
+ghost use Rattle.dict_value.specs.declared.fault.Cause.{Cause};
+ghost use Rattle.load_core.specs.WorldRows.{row_verdicts};
 
 use crate::judge::Judge;
 
@@ -20,4 +23,10 @@ pub fn core_law<J: Judge>()
     ensures never_fall { NeverFall J.judges }
     ensures never_older { NeverOlder J.judges }
     ensures never_below { NeverBelowLearnt J.judges }
+{}
+
+/// The judge of `World::run` gives one verdict on a text: it is accepted, or refused for one cause.
+pub fn one_verdict()
+    ensures { (number : ℕ) (text : List ℕ) (verdict other : Option Cause) → row_verdicts number text verdict
+        → row_verdicts number text other → verdict ≡ other }
 {}

@@ -9,16 +9,16 @@
 
 pub mod caller;
 pub mod dictionary;
-mod first_rows;
 pub mod flat;
 pub mod judge;
 pub mod laws;
 #[cfg(test)]
 mod tests;
 pub mod world;
+mod world_rows;
 
 pub use caller::{CallerCore, CallerEffect, CallerEvent};
 pub use dictionary::{DictCore, DictEffect, DictEvent, Ending, LastCause, MOST_LOADS, Phase};
-pub use flat::{FIRST_LARGE_KEY, TableFault, accept};
+pub use flat::{TableFault, accept};
 pub use judge::{Judge, RowJudge};
 pub use world::{Ended, World, WorldCaller, WorldDict, WorldEntry, WorldEvent};

@@ -1,7 +1,8 @@
 // The cores and the world on worked rows.
+use crate::laws::{core_law, one_verdict};
 use crate::{
     CallerCore, DictCore, DictEffect, DictEvent, Ended, Ending, LastCause, MOST_LOADS, Phase,
-    World, WorldEvent,
+    RowJudge, World, WorldEvent,
 };
 use dict_value::{BadRow, BadValue, Bytes, Cause, Exit, Why};
 use std::test::Fail;
@@ -53,6 +54,8 @@ fn one_dictionary_and_two_callers(rt: HostRuntime) -> Result<(), Fail> {
         return Err(Fail::from("the second caller knows not one dictionary"));
     };
     assert_eq!(rt; told.core, CallerCore { floor: 1 });
+    core_law::<RowJudge>();
+    one_verdict();
     Ok(())
 }
 

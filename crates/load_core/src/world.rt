@@ -1,15 +1,15 @@
 // Dictionaries and callers at once, and what a list of events makes of them.
 ghost use Rattle.std.specs.Prelude.{◌≡◌, [], ◌∷◌, ◌++◌, ◌≤◌, length, map, replicate, MatchOption, IfOk, OnOk, All, slice_get, slice_set};
 ghost use Rattle.std.specs.List.{range_with_len};
-ghost use Rattle.load_core.specs.FirstRows.{row_verdicts};
+ghost use Rattle.load_core.specs.WorldRows.{row_verdicts};
 ghost use Rattle.load_core.specs.WorldSteps.{Judged, Finishes, Run, Step, counted, dict_after, dict_at, with_dict, caller_at, with_caller, known_to, last_number, knowing, empty_dict, empty_caller, empty_world};
 ghost use Rattle.load_core.specs.WorldTurns.{DictTurn, IsShort};
 
 use crate::caller::{CallerCore, CallerEvent};
 use crate::dictionary::{DictCore, DictEffect, DictEvent, Ending, Phase};
-use crate::first_rows::FirstColumns;
 use crate::flat::{TableFault, accept};
 use crate::judge::{Judge, RowJudge};
+use crate::world_rows::WorldColumns;
 use dict_value::{Bytes, Cause, Exit, Format, ListOf, NoMemory};
 use row_text::decode_rows;
 use std::alloc::Global;
@@ -197,7 +197,7 @@ fn judged(alloc: Global, definition: u32, text: &[u8]) -> Result<Ending, NoMemor
     requires { length text.now ≤ 4294967295 }
     ensures { IfOk result (λ ending. Judged row_verdicts definition text.now ending) }
 {
-    match accept(decode_rows(alloc, Format::Tab, &FirstColumns, text)) {
+    match accept(decode_rows(alloc, Format::Tab, &WorldColumns, text)) {
         Ok(_) => Ok(Ending::Rows),
         Err(TableFault::Refused(cause)) => Ok(Ending::Failed(cause)),
         Err(TableFault::NoMemory) => Err(NoMemory),

@@ -1,6 +1,7 @@
 -- A text decoded line by line: what is decoded so far, and what the rest decodes to, is what the whole decodes to.
 use Rattle.std.proofs.Common.{◌≡◌, ◌≢◌, ◌≤◌, ◌<◌, ◌+◌, ◌∷◌, ◌++◌, ◌∙◌, [], ℕ, List, length, refl, sym, ap, subst, inl, inr, arith, append_assoc, true, Result, Ok, Err}
 use Rattle.std.specs.Prelude.{filter}
+use Rattle.std.specs.Result.{IsErrAnd}
 use Rattle.std.specs.List.{AllZip, flat_map}
 use Rattle.std.proofs.lemmas.List.{append-nil, length-append}
 use Rattle.std.proofs.lemmas.Bool.{cases_Bool, cases_eq}
@@ -13,7 +14,7 @@ use Rattle.row_text.specs.declared.cutter.CutRule.{CutRule}
 use Rattle.row_text.specs.Letters.{line_feed}
 use Rattle.row_text.specs.Cutting.{BeginsWithLine, IsOpen, IsWhole, ended, keeps_open}
 use Rattle.row_text.specs.Tables.{AreLines, last_line}
-use Rattle.row_text.specs.Decoding.{AreTypedRows, Column, Decodes, HasFields, IsTypedRow, LineGives, StandsBehind, UnlessNoMemory, Unread, Unvalued, is_row_line, most_rows, rule_of}
+use Rattle.row_text.specs.Decoding.{AreTypedRows, Column, Decodes, FillsColumns, IsTypedRow, LineGives, StandsBehind, UnlessNoMemory, Unread, Unvalued, is_row_line, most_rows, rule_of}
 use Rattle.row_text.specs.DecodeSteps.{AddsLine, LineBrings, LineDecodes, TakeAll, fault_at, row_fault}
 use Rattle.row_text.specs.TabRow.{GivenMemory}
 use Rattle.row_text.specs.declared.decode.DecodeFault.{DecodeFault}
@@ -144,6 +145,13 @@ done-fault format columns text left line rest number rows new some begins d deco
     record { rows = rows; line = line; stands = (done-behind format columns text left line rest number rows some begins d is).0; full = full }
 done-fault format columns text left line rest number rows new some begins d decode.NoMemory found = tt
 
+-- an answer that hands this fault on
+pub handed-on : (format : Format) (columns : List Column) (text : List ℕ) (answer : Result (List (List Value)) DecodeFault) (fault : DecodeFault) → IsErrAnd answer (λ told. told ≡ fault)
+    → UnlessNoMemory {A = List (List Value)} (Err fault) (Decodes format columns text (Err fault)) → UnlessNoMemory answer (Decodes format columns text answer)
+handed-on format columns text (Ok rows) fault same found = absurd same
+handed-on format columns text (Err told) fault same found =
+    subst (λ (x : DecodeFault). UnlessNoMemory {A = List (List Value)} (Err x) (Decodes format columns text (Err x))) (sym same) found
+
 -- the fault of a line
 pub line-unread : (format : Format) (columns : List Column) (line : List ℕ) (fault : LineFault) → GivenMemory {A = List Field} (Err fault) (LineGives format line (Err fault)) → LineDecodes format columns line (Err (row_fault fault))
 line-unread format columns line (of_line.BadEscape place) gives = Unread (of_line.BadEscape place) gives refl refl
@@ -152,7 +160,7 @@ line-unread format columns line of_line.NotOneRecord gives = Unread of_line.NotO
 line-unread format columns line of_line.NoMemory gives = tt
 
 -- the fields of a line and what the columns make of them
-pub line-valued : (format : Format) (columns : List Column) (line : List ℕ) (fields : List Field) → HasFields format columns line fields → (made : Result (List Value) RowFault) → TakeAll columns fields made → LineDecodes format columns line made
+pub line-valued : (format : Format) (columns : List Column) (line : List ℕ) (fields : List Field) → FillsColumns format columns line fields → (made : Result (List Value) RowFault) → TakeAll columns fields made → LineDecodes format columns line made
 line-valued format columns line fields has (Ok values) taken = (fields, has, taken)
 line-valued format columns line fields has (Err (row.Bad column reason)) (before, fault, after, parts, at, why') = Unvalued fields before fault after has parts at why'
 line-valued format columns line fields has (Err row.NoMemory) taken = tt

@@ -12,5 +12,5 @@ pub mod CsvReads
 mod CsvPlain
 mod CsvWritten
 pub mod Tabled
-mod OneDecoding
+pub mod OneDecoding
 pub mod CutGrowth

@@ -6,7 +6,7 @@ use Rattle.dict_value.specs.declared.value.BadValue.{BadValue}
 use Rattle.dict_value.specs.declared.value.BadValue.TheVariants as value
 use Rattle.dict_value.specs.declared.value.Field.{Field}
 use Rattle.dict_value.specs.declared.value.Value.{Value}
-use Rattle.row_text.specs.Decoding.{Column, Takes, readings}
+use Rattle.row_text.specs.Decoding.{Column, Reads, readings}
 use Rattle.row_text.specs.DecodeSteps.{TakeAll, column_fault}
 
 -- the next field goes to the column at its place, and those behind it to the columns behind that one
@@ -18,7 +18,7 @@ pub record Turn (columns : List Column) (before : List Field) (field : Field) (m
 
 -- what was read of a field is what the column at its place makes of it
 abbrev pub Taken : List Column → List Field → Field → Result Value BadValue → Type 0
-Taken columns before field made = (column : Column) → slice_get columns (length before) ≡ Some column → Takes column field made
+Taken columns before field made = (column : Column) → slice_get columns (length before) ≡ Some column → Reads column field made
 
 pub turn : (columns : List Column) (before : List Field) (field : Field) (more : List Field) → length before < length columns → Turn columns before field more
 turn [] before field more below = absurd (omega arith)
@@ -52,7 +52,7 @@ read-fault columns fields before field more row fault split count below read tak
     ap (readings columns) split ∙ t.parts ∙ ap (λ (xs : List (Result Value BadValue)). xs ++ t.column field ∷ readings t.later more) read in
     told (t.column field) (readings t.later more) fault (taken t.column t.here) parts
   where
-    told : (made : Result Value BadValue) (later : List (Result Value BadValue)) (fault : BadValue) → Takes (λ _. made) field (Err fault)
+    told : (made : Result Value BadValue) (later : List (Result Value BadValue)) (fault : BadValue) → Reads (λ _. made) field (Err fault)
         → readings columns fields ≡ map Ok row ++ made ∷ later → TakeAll columns fields (Err (column_fault (length row) fault))
     told made later value.NoMemory takes parts = tt
     told made later value.NotANumber takes parts = (row, value.NotANumber, later, parts ∙ ap (λ (x : Result Value BadValue). map Ok row ++ x ∷ later) (sym takes), refl, refl)

@@ -3,7 +3,7 @@ use Rattle.std.specs.Prelude.{◌≡◌, ◌≢◌, ◌<◌, ◌≤◌, ◌+◌,
 use Rattle.std.specs.List.{AllZip, zip}
 use Rattle.dict_value.specs.declared.fault.BadRow.{BadRow}
 use Rattle.dict_value.specs.declared.fault.LineFault.{LineFault}
-use Rattle.dict_value.specs.declared.fault.LineFault.TheVariants as line
+use Rattle.dict_value.specs.declared.fault.LineFault.TheVariants as fault
 use Rattle.dict_value.specs.declared.fault.Why.{Why}
 use Rattle.dict_value.specs.declared.fault.Why.TheVariants as why
 use Rattle.dict_value.specs.declared.value.BadValue.{BadValue}
@@ -25,9 +25,9 @@ abbrev pub Column : Type 0
 Column = Field → Result Value BadValue
 
 -- the column makes this of the field, or no memory was found
-abbrev pub Takes : Column → Field → Result Value BadValue → Type 0
-Takes column field (Err value.NoMemory) = Unit {0}
-Takes column field r = r ≡ column field
+abbrev pub Reads : Column → Field → Result Value BadValue → Type 0
+Reads column field (Err value.NoMemory) = Unit {0}
+Reads column field r = r ≡ column field
 
 -- which line feeds end a row
 abbrev pub rule_of : Format → CutRule
@@ -49,19 +49,19 @@ abbrev pub readings : List Column → List Field → List (Result Value BadValue
 readings columns fields = map (λ (both : Column × Field). both.0 both.1) (zip columns fields)
 
 -- the line has these fields, one for each column
-abbrev pub HasFields : Format → List Column → List ℕ → List Field → Type 0
-HasFields format columns line fields = LineGives format line (Ok fields) × (length fields ≡ length columns)
+abbrev pub FillsColumns : Format → List Column → List ℕ → List Field → Type 0
+FillsColumns format columns line fields = LineGives format line (Ok fields) × (length fields ≡ length columns)
 
 -- the line is this row: each column has its value
 abbrev pub IsTypedRow : Format → List Column → List ℕ → List Value → Type 0
-IsTypedRow format columns line row = (fields : List Field) × HasFields format columns line fields × (readings columns fields ≡ map Ok row)
+IsTypedRow format columns line row = (fields : List Field) × FillsColumns format columns line fields × (readings columns fields ≡ map Ok row)
 
 -- what a bad row calls the fault of its line; want of memory is none of a line's
 abbrev pub why_of : LineFault → Why
-why_of (line.BadEscape place) = why.Escape place
-why_of line.CarriageReturn = why.CarriageReturn
-why_of line.NotOneRecord = why.NotOneRecord
-why_of line.NoMemory = why.Value value.NoMemory
+why_of (fault.BadEscape place) = why.Escape place
+why_of fault.CarriageReturn = why.CarriageReturn
+why_of fault.NotOneRecord = why.NotOneRecord
+why_of fault.NoMemory = why.Value value.NoMemory
 
 -- a count of fields as a bad row tells it: at most the greatest number of 32 bits
 abbrev pub told_count : ℕ → ℕ
@@ -75,7 +75,7 @@ pub data IsBadLine (format : Format) (columns : List Column) (line : List ℕ) (
   Miscounted : (fields : List Field) → LineGives format line (Ok fields) → length fields ≢ length columns
       → column ≡ 0 → reason ≡ why.FieldCount (told_count (length fields)) → IsBadLine format columns line column reason
   Unvalued : (fields : List Field) (before : List Value) (fault : BadValue) (after : List (Result Value BadValue))
-      → HasFields format columns line fields → readings columns fields ≡ map Ok before ++ Err fault ∷ after
+      → FillsColumns format columns line fields → readings columns fields ≡ map Ok before ++ Err fault ∷ after
       → column ≡ length before + 1 → reason ≡ why.Value fault → IsBadLine format columns line column reason
 
 -- the greatest number of rows of a version

@@ -59,7 +59,7 @@ impl Cutter {
         }
     }
 
-    /// Takes the bytes of a piece up to the first row end in it, or all of them.
+    /// Reads the bytes of a piece up to the first row end in it, or all of them.
     pub fn feed(&mut self, piece: &[u8]) -> Cut
         ensures within { IsCutOf piece.now result }
         ensures feeds { (rule : CutRule) (row : List ℕ) → Holds rule self.old row
@@ -125,7 +125,7 @@ fn row_end(rule: CutRule, before: bool, piece: &[u8]) -> Found
 }
 
 /// The first line of a text, without its line feed, and what stands behind it.
-pub fn first_line(rule: CutRule, text: &[u8]) -> (&[u8], &[u8])
+pub(crate) fn first_line(rule: CutRule, text: &[u8]) -> (&[u8], &[u8])
     ensures { BeginsWithLine rule text.now result.0.now result.1.now }
 {
     let mut cutter = Cutter::new(rule);

@@ -14,7 +14,7 @@ use dict_value::{
 use std::alloc::Global;
 
 /// The greatest number of rows of a version.
-pub const MOST_ROWS: usize = 4_194_304;
+const MOST_ROWS: usize = 4_194_304;
 
 /// Why a text has no rows.
 #[derive(Clone, Copy, Debug, PartialEq, Eq)]
@@ -29,7 +29,7 @@ pub enum DecodeFault {
 /// The columns of a table.
 pub trait Columns {
     ghost use Rattle.std.specs.Prelude.{◌≡◌, ◌<◌, List, Some, length, slice_get};
-    ghost use Rattle.row_text.specs.Decoding.{Column, Takes};
+    ghost use Rattle.row_text.specs.Decoding.{Column, Reads};
 
     /// What each column makes of a field.
     ghost columns: { Self → List Column };
@@ -40,7 +40,8 @@ pub trait Columns {
 
     /// What the column at a place makes of a field.
     fn read(&self, alloc: Global, place: usize, field: Field) -> Result<Value, BadValue>
-        ensures { (column : Column) → slice_get (columns self.now) place ≡ Some column → Takes column field result };
+        requires { place < length (columns self.now) }
+        ensures { (column : Column) → slice_get (columns self.now) place ≡ Some column → Reads column field result };
 }
 
 /// The typed rows of a whole text, or its first bad row, or that it has too many.
@@ -61,10 +62,7 @@ pub fn decode_rows<C: Columns>(
     while !left.is_empty() {
         let (line, rest) = first_line(rule, left);
         number += 1;
-        match take_line(alloc, format, columns, line, number, &mut rows) {
-            Ok(()) => {}
-            Err(fault) => return Err(fault),
-        }
+        take_line(alloc, format, columns, line, number, &mut rows)?;
         left = rest;
     }
     Ok(rows)

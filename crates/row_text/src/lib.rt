@@ -2,7 +2,8 @@
 //!
 //! It promises that a row is read as its fields exactly where it has them, and else as its first
 //! fault; that a written row is read again; and that the rows which a [`Cutter`] cuts are those of
-//! the whole text before its last row end, in whatever pieces the text comes. Only want of memory
+//! the whole text before its last row end, in whatever pieces the text comes. A whole text decodes to
+//! its typed rows, to its first bad row, or to too many, by any [`Columns`]. Only want of memory
 //! may stand in place of an answer, and a [`Cutter`] takes none.
 #![tactic(auto)]
 
@@ -13,8 +14,8 @@ pub mod laws;
 pub mod tab_row;
 
 pub use csv_row::{is_blank, read_csv_row, write_csv_row};
-pub use cutter::{Cut, CutRule, Cutter, first_line, rows_of_pieces};
-pub use decode::{Columns, DecodeFault, MOST_ROWS, decode_rows};
+pub use cutter::{Cut, CutRule, Cutter, rows_of_pieces};
+pub use decode::{Columns, DecodeFault, decode_rows};
 pub use laws::{one_decoding, one_list_of_lines, one_table, written_tables};
 pub use tab_row::{read_fields, write_row, write_text};
 

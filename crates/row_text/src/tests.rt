@@ -1,10 +1,13 @@
 ghost use Rattle.std.specs.Prelude.{◌<◌};
 
 use crate::{
-    Cut, CutRule, Cutter, is_blank, one_decoding, one_list_of_lines, one_table, read_csv_row,
-    read_fields, rows_of_pieces, write_csv_row, write_row, write_text, written_tables,
+    Columns, Cut, CutRule, Cutter, DecodeFault, decode_rows, is_blank, one_decoding,
+    one_list_of_lines, one_table, read_csv_row, read_fields, rows_of_pieces, write_csv_row,
+    write_row, write_text, written_tables,
 };
-use dict_value::{Bytes, Field, Fields, LineFault, ListOf, NoMemory};
+use dict_value::{
+    BadRow, BadValue, Bytes, Field, Fields, Format, LineFault, ListOf, NoMemory, Value, Why,
+};
 use std::alloc::Global;
 use std::test::Fail;
 
@@ -140,6 +143,62 @@ fn show_rows(
             }
         }
         out.push(b';')?;
+    }
+    Ok(())
+}
+
+/// One column, which makes Null of every field.
+struct NullColumn;
+
+impl Columns for NullColumn {
+    ghost use Rattle.std.specs.Prelude.{◌∷◌, [], Ok};
+    ghost use Rattle.dict_value.specs.declared.value.Value.TheVariants.{Null};
+
+    ghost columns = { λ it. (λ field. Ok Null) ∷ [] };
+
+    fn count(&self) -> usize {
+        1
+    }
+
+    fn read(&self, _alloc: Global, _place: usize, _field: Field) -> Result<Value, BadValue> {
+        Ok(Value::Null)
+    }
+}
+
+#[test]
+fn decoded_rows(rt: HostRuntime) -> Result<(), Fail> {
+    let cases: [(Format, &[u8], Result<usize, BadRow>); 5] = [
+        (Format::Tab, b"", Ok(0)),
+        (Format::Tab, b"a\n\n\\\n\nb", Ok(4)),
+        (Format::Csv, b"a\n\r\nb\r\n\"\n\"", Ok(3)),
+        (
+            Format::Tab,
+            b"a\nb\tc\nd\te\n",
+            Err(BadRow {
+                line: 2,
+                column: 0,
+                why: Why::FieldCount(2),
+            }),
+        ),
+        (
+            Format::Csv,
+            b"a\n\nb,c",
+            Err(BadRow {
+                line: 3,
+                column: 0,
+                why: Why::FieldCount(2),
+            }),
+        ),
+    ];
+    for (format, text, wanted) in cases {
+        let found = match decode_rows(rt.alloc(), format, &NullColumn, text) {
+            Ok(rows) => Ok(rows.len()),
+            Err(DecodeFault::Bad(bad)) => Err(bad),
+            Err(DecodeFault::TooMany | DecodeFault::NoMemory) => return Err(Fail::from(
+                "a short text has memory and few rows",
+            )),
+        };
+        assert_eq!(rt; found, wanted);
     }
     Ok(())
 }

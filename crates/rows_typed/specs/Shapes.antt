@@ -23,16 +23,17 @@ use Rattle.row_text.specs.Letters.{backslash, capital_n, tab}
 abbrev pub space : ℕ
 space = 32
 
-abbrev pub is_blank : ℕ → Bool
-is_blank b = (b == space) || (b == tab)
+-- a space or a tab
+abbrev pub is_blank_byte : ℕ → Bool
+is_blank_byte b = (b == space) || (b == tab)
 
+-- a text without the blanks at its end
 abbrev pub without_end_blanks : List ℕ → List ℕ
-without_end_blanks text = take (length text - suffix_len is_blank text) text
+without_end_blanks text = take (length text - suffix_len is_blank_byte text) text
 
--- a text without the spaces and tabs at its ends
 -- a text without the blanks at its ends
 abbrev pub without_blanks : List ℕ → List ℕ
-without_blanks text = without_end_blanks (drop (prefix_len is_blank text) text)
+without_blanks text = without_end_blanks (drop (prefix_len is_blank_byte text) text)
 
 -- whether a text is \N
 abbrev pub is_null_text : List ℕ → Bool
@@ -68,12 +69,12 @@ value_at column field.Null = null_at column.role column.ty.nullable column.defau
 value_at column (field.Text text) = text_reading column.ty.base text
 
 -- what a column makes of a field of this format
-abbrev pub seen_by : Format → ShapeColumn → Column
-seen_by format column field = value_at column (seen_field format column.ty field)
+abbrev pub column_by : Format → ShapeColumn → Column
+column_by format column field = value_at column (seen_field format column.ty field)
 
 -- the columns of a shape
 abbrev pub columns_of : Format → List ShapeColumn → List Column
-columns_of format shape = map (seen_by format) shape
+columns_of format shape = map (column_by format) shape
 
 -- what a text decodes to by a shape
 abbrev pub Decode : List ShapeColumn → Format → List ℕ → Result (List (List Value)) DecodeFault → Type 0

@@ -1,7 +1,7 @@
 // What the columns of a shape make of fields.
 ghost use Rattle.std.specs.Prelude.{◌≡◌, length, reverse, take_while};
-ghost use Rattle.row_text.specs.Decoding.{Takes};
-ghost use Rattle.rows_typed.specs.Shapes.{is_blank, is_null_text, seen_by, value_at, without_blanks};
+ghost use Rattle.row_text.specs.Decoding.{Reads};
+ghost use Rattle.rows_typed.specs.Shapes.{is_blank_byte, is_null_text, column_by, value_at, without_blanks};
 
 use dict_schema::{Role, ShapeColumn};
 use dict_value::{AttrType, BadValue, Bytes, ColType, Field, Format, Value, copy_value, read_text};
@@ -25,10 +25,7 @@ impl<'a> Columns for ShapeColumns<'a> {
     }
 
     fn read(&self, alloc: Global, place: usize, field: Field) -> Result<Value, BadValue> {
-        match self.shape.get(place) {
-            Some(column) => read_field(alloc, self.format, column, field),
-            None => Err(BadValue::NoMemory),
-        }
+        read_field(alloc, self.format, &self.shape[place], field)
     }
 }
 
@@ -39,7 +36,7 @@ fn read_field(
     column: &ShapeColumn,
     field: Field,
 ) -> Result<Value, BadValue>
-    ensures { Takes (seen_by format column.now) field result }
+    ensures { Reads (column_by format column.now) field result }
 {
     match (format, field) {
         (_, Field::Null) => null_value(alloc, column),
@@ -50,7 +47,7 @@ fn read_field(
 
 /// What NULL is at a column.
 fn null_value(alloc: Global, column: &ShapeColumn) -> Result<Value, BadValue>
-    ensures { Takes (value_at column.now) Field.Null result }
+    ensures { Reads (value_at column.now) Field.Null result }
 {
     match column.role {
         Role::Start | Role::End => Ok(Value::Null),
@@ -62,7 +59,7 @@ fn null_value(alloc: Global, column: &ShapeColumn) -> Result<Value, BadValue>
 
 /// The value of a text, which becomes that of a String without a copy.
 fn text_value(alloc: Global, column: &ShapeColumn, text: Bytes) -> Result<Value, BadValue>
-    ensures { Takes (value_at column.now) (Field.Text text) result }
+    ensures { Reads (value_at column.now) (Field.Text text) result }
 {
     match column.ty.base {
         ColType::Str => Ok(Value::S(text)),
@@ -72,7 +69,7 @@ fn text_value(alloc: Global, column: &ShapeColumn, text: Bytes) -> Result<Value,
 
 /// The value of a text of CSV.
 fn csv_value(alloc: Global, column: &ShapeColumn, text: Bytes) -> Result<Value, BadValue>
-    ensures { Takes (seen_by Format.Csv column.now) (Field.Text text) result }
+    ensures { Reads (column_by Format.Csv column.now) (Field.Text text) result }
 {
     match column.ty {
         AttrType {
@@ -114,21 +111,21 @@ fn without_blanks(text: &[u8]) -> &[u8]
 
 /// How many blanks a text begins with.
 fn blanks_before(text: &[u8]) -> usize
-    ensures { result ≡ length (take_while is_blank text.now) }
+    ensures { result ≡ length (take_while is_blank_byte text.now) }
 {
-    text.iter().take_while(|b| is_blank(**b)).count()
+    text.iter().take_while(|b| is_blank_byte(**b)).count()
 }
 
 /// How many blanks a text ends with.
 fn blanks_behind(text: &[u8]) -> usize
-    ensures { result ≡ length (take_while is_blank (reverse text.now)) }
+    ensures { result ≡ length (take_while is_blank_byte (reverse text.now)) }
 {
-    text.iter().rev().take_while(|b| is_blank(**b)).count()
+    text.iter().rev().take_while(|b| is_blank_byte(**b)).count()
 }
 
 /// A space or a tab.
-fn is_blank(byte: u8) -> bool
-    ensures { result ≡ is_blank byte }
+fn is_blank_byte(byte: u8) -> bool
+    ensures { result ≡ is_blank_byte byte }
 {
     matches!(byte, b' ' | b'\t')
 }

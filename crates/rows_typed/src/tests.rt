@@ -54,8 +54,7 @@ fn show(alloc: Global, answer: Result<Rows, DecodeFault>, out: &mut Bytes) -> Re
             let told = format!(in alloc; "row {} {} {:?}", bad.line, bad.column, bad.why);
             return out.extend(told.map_err(|_| NoMemory)?.as_bytes());
         }
-        Err(DecodeFault::TooMany) => return out.extend(b"too many"),
-        Err(DecodeFault::NoMemory) => return Err(NoMemory),
+        Err(DecodeFault::TooMany | DecodeFault::NoMemory) => return Err(NoMemory),
     };
     for row in rows.as_slice() {
         for value in row.as_slice() {

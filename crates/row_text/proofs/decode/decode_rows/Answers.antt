@@ -4,14 +4,16 @@ use Rattle.std.proofs.lemmas.Bool.{eqb-true}
 use Rattle.row_text.specs.declared.cutter.CutRule.{CutRule}
 use Rattle.row_text.specs.Cutting.{BeginsWithLine}
 use Rattle.row_text.specs.Decoding.{rule_of}
-use Rattle.row_text.proofs.Decoded.{done-all, done-fault, done-more, rest-shorter, rows-few}
+use Rattle.row_text.proofs.Decoded.{done-all, done-fault, done-more, handed-on, rest-shorter, rows-few}
 use Rattle.row_text.proofs.decode.decode_rows.Goals as goal
 
-pub returns-in-Err : goal.returns-in-Err
-returns-in-Err g c =
+pub returns-in_err-take_line : goal.returns-in_err-take_line
+returns-in_err-take_line g c =
     let some : c.loop-left.left.now ≢ [] = λ e. cc (c.loop-left-test.ensures ∙ ap (λ (t : List ℕ). length t == 0) e) in
     let begins = subst (λ (by : CutRule). BeginsWithLine by c.loop-left.left.now c.first_line.result.0.now c.first_line.result.1.now) c.rule_for-rule.ensures c.first_line.ensures in
-    done-fault c.args.format (g.C.Columns.columns c.args.columns.now) c.args.text.now c.loop-left.left.now c.first_line.result.0.now c.first_line.result.1.now c.loop-left.number c.loop-left.rows c.take_line.new.rows some begins c.loop-left.invariant.done c.in-Err.fault c.in-Err.ensures
+    let fault = c.in_err-take_line.field-0.0 in
+    handed-on c.args.format (g.C.Columns.columns c.args.columns.now) c.args.text.now c.from_residual.result fault c.from_residual.ensures.1
+    (done-fault c.args.format (g.C.Columns.columns c.args.columns.now) c.args.text.now c.loop-left.left.now c.first_line.result.0.now c.first_line.result.1.now c.loop-left.number c.loop-left.rows c.take_line.new.rows some begins c.loop-left.invariant.done fault c.in_err-take_line.ensures)
 
 pub loop-left-preserved : goal.loop-left-preserved
 loop-left-preserved g c =
@@ -19,8 +21,8 @@ loop-left-preserved g c =
     let begins = subst (λ (by : CutRule). BeginsWithLine by c.loop-left.left.now c.first_line.result.0.now c.first_line.result.1.now) c.rule_for-rule.ensures c.first_line.ensures in
     let shorter = rest-shorter (rule_of c.args.format) c.loop-left.left.now c.first_line.result.0.now c.first_line.result.1.now some begins in
     record {
-      done = done-more c.args.format (g.C.Columns.columns c.args.columns.now) c.args.text.now c.loop-left.left.now c.first_line.result.0.now c.first_line.result.1.now c.loop-left.number c.loop-left.rows c.take_line.new.rows some begins c.loop-left.invariant.done c.in-Ok.ensures;
-      few = rows-few c.args.format (g.C.Columns.columns c.args.columns.now) c.first_line.result.0.now c.loop-left.rows c.take_line.new.rows c.loop-left.invariant.few c.in-Ok.ensures;
+      done = done-more c.args.format (g.C.Columns.columns c.args.columns.now) c.args.text.now c.loop-left.left.now c.first_line.result.0.now c.first_line.result.1.now c.loop-left.number c.loop-left.rows c.take_line.new.rows some begins c.loop-left.invariant.done c.in_ok-take_line.ensures;
+      few = rows-few c.args.format (g.C.Columns.columns c.args.columns.now) c.first_line.result.0.now c.loop-left.rows c.take_line.new.rows c.loop-left.invariant.few c.in_ok-take_line.ensures;
       within = omega (arith, shorter, c.loop-left.invariant.within);
     }
 

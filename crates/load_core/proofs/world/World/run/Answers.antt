@@ -1,7 +1,7 @@
 use Rattle.std.proofs.Common.{take, subst, sym, ap, List, [], ◌∷◌, ◌++◌, ◌∙◌}
 use Rattle.std.proofs.lemmas.List.{take_more}
 use Rattle.load_core.specs.declared.world.WorldEvent.{WorldEvent}
-use Rattle.load_core.specs.FirstRows.{row_verdicts}
+use Rattle.load_core.specs.WorldRows.{row_verdicts}
 use Rattle.load_core.specs.WorldSteps.{Run, empty_world}
 use Rattle.load_core.proofs.LawLemmas.{short}
 use Rattle.load_core.proofs.Runs.{run_more}

@@ -1,5 +1,5 @@
 use Rattle.std.proofs.Common.{take}
-use Rattle.load_core.specs.FirstRows.{row_verdicts}
+use Rattle.load_core.specs.WorldRows.{row_verdicts}
 use Rattle.load_core.specs.WorldSteps.{Run, empty_world}
 use Rattle.load_core.proofs.world.World.run.Given as goal
 

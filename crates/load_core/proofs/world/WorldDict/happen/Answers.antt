@@ -2,7 +2,7 @@ use Rattle.std.proofs.Common.{refl}
 use Rattle.std.proofs.lemmas.Result.{on_ok_weaker}
 use Rattle.load_core.specs.declared.dictionary.DictEvent.TheVariants.{Finish}
 use Rattle.load_core.specs.DictSteps.{stepped}
-use Rattle.load_core.specs.FirstRows.{row_verdicts}
+use Rattle.load_core.specs.WorldRows.{row_verdicts}
 use Rattle.load_core.proofs.Rows.{idle_finish, running_finishes}
 use Rattle.load_core.proofs.world.WorldDict.happen.Goals as goal
 

@@ -10,18 +10,18 @@ use Rattle.dict_value.specs.Values.{reading}
 use Rattle.row_text.specs.Decoding.{Column, Decodes}
 use Rattle.load_core.specs.FlatRows.{IsRefusedFor, IsTable}
 
-abbrev pub key_value : Column
-key_value seen = reading (record { base = UInt64; nullable = false }) seen
+abbrev pub key_column : Column
+key_column seen = reading (record { base = UInt64; nullable = false }) seen
 
 -- NULL gives the default
-abbrev pub text_value : Column
-text_value field.Null = Ok (S [])
-text_value (field.Text text) = Ok (S text)
+abbrev pub text_column : Column
+text_column field.Null = Ok (S [])
+text_column (field.Text text) = Ok (S text)
 
-abbrev pub first_columns : List Column
-first_columns = key_value ∷ text_value ∷ []
+abbrev pub world_columns : List Column
+world_columns = key_column ∷ text_column ∷ []
 
 -- what the judge says of a text, whatever the dictionary's number
 abbrev pub row_verdicts : ℕ → List ℕ → Option Cause → Type 0
-row_verdicts number text None = (rows : List (List Value)) × IsTable (Decodes Tab first_columns text) rows
-row_verdicts number text (Some cause) = IsRefusedFor (Decodes Tab first_columns text) cause
+row_verdicts number text None = (rows : List (List Value)) × IsTable (Decodes Tab world_columns text) rows
+row_verdicts number text (Some cause) = IsRefusedFor (Decodes Tab world_columns text) cause

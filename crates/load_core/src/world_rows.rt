@@ -4,12 +4,12 @@ use row_text::Columns;
 use std::alloc::Global;
 
 /// The key, and the String with the default ''.
-pub struct FirstColumns;
+pub struct WorldColumns;
 
-impl Columns for FirstColumns {
-    ghost use Rattle.load_core.specs.FirstRows.{first_columns};
+impl Columns for WorldColumns {
+    ghost use Rattle.load_core.specs.WorldRows.{world_columns};
 
-    ghost columns = { λ it. first_columns };
+    ghost columns = { λ it. world_columns };
 
     fn count(&self) -> usize {
         2

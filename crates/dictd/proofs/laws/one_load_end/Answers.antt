@@ -1,0 +1,8 @@
+use Rattle.dictd.proofs.OneEnd.{one-end}
+use Rattle.dictd.proofs.laws.one_load_end.Goals as goal
+
+pub returns-clause-end : goal.returns-clause-end
+returns-clause-end c = λ output ending end other old new more p q some some'. (one-end output ending end other old new more p q some some').0
+
+pub returns-clause-list : goal.returns-clause-list
+returns-clause-list c = λ output ending end other old new more p q some some'. (one-end output ending end other old new more p q some some').1

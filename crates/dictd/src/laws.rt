@@ -1,0 +1,28 @@
+// What holds of every output and every load, whatever is called.
+ghost use Rattle.std.specs.Prelude.{◌≡◌, ◌≢◌, ℕ, List};
+ghost use Rattle.child_io.specs.declared.pieces.PieceEnd.{PieceEnd};
+ghost use Rattle.dict_value.specs.declared.fault.Cause.{Cause};
+ghost use Rattle.dictd.specs.declared.ending.LoadEnd.{LoadEnd};
+ghost use Rattle.dictd.specs.declared.ending.LoadEnd.TheVariants.{NoMemory};
+ghost use Rattle.dictd.specs.Loads.{EndsLoad};
+ghost use Rattle.dictd.specs.ThinRows.{IsRefused, IsTableOf, Table};
+
+/// An output is one table, or it is refused for one cause.
+pub fn one_judgement()
+    ensures table { (output : List ℕ) (rows others : Table) → IsTableOf output rows → IsTableOf output others
+        → rows ≡ others }
+    ensures either { (output : List ℕ) (rows : Table) (cause : Cause) → IsTableOf output rows → ¬ IsRefused output cause }
+    ensures cause { (output : List ℕ) (cause other : Cause) → IsRefused output cause → IsRefused output other
+        → cause ≡ other }
+{}
+
+/// A load that finds its memory has one end, by its child's output and end: it publishes exactly where
+/// the output is a table and the child ended with status 0, and else fails for one cause.
+pub fn one_load_end()
+    ensures end { (output : List ℕ) (ending : PieceEnd) (end other : LoadEnd) (old new more : List Table)
+        → EndsLoad output ending end old new → EndsLoad output ending other old more → end ≢ NoMemory
+        → other ≢ NoMemory → end ≡ other }
+    ensures list { (output : List ℕ) (ending : PieceEnd) (end other : LoadEnd) (old new more : List Table)
+        → EndsLoad output ending end old new → EndsLoad output ending other old more → end ≢ NoMemory
+        → other ≢ NoMemory → new ≡ more }
+{}

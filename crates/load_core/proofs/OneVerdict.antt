@@ -1,0 +1,94 @@
+-- A text that decodes to one answer is one table, or is refused for one cause.
+use Rattle.std.proofs.Common.{◌≡◌, ◌<◌, ◌≤◌, ◌∷◌, ◌++◌, ◌∙◌, ◌⊎◌, [], ℕ, List, Option, Some, None, Result, Ok, Err, refl, sym, ap, subst, inl, inr, arith}
+use Rattle.std.specs.List.{AllByRecursion}
+use Rattle.dict_value.specs.declared.fault.Cause.{Cause}
+use Rattle.dict_value.specs.declared.fault.Cause.TheVariants as cause
+use Rattle.dict_value.specs.declared.value.Format.TheVariants.{Tab}
+use Rattle.dict_value.specs.declared.value.Value.{Value}
+use Rattle.row_text.specs.declared.decode.DecodeFault.{DecodeFault}
+use Rattle.row_text.specs.declared.decode.DecodeFault.TheVariants as decode
+use Rattle.row_text.specs.Decoding.{Decodes}
+use Rattle.row_text.proofs.OneDecoding.{one-decoding}
+use Rattle.load_core.specs.FlatRows.{Decoded, HasKey, HasSmallKey, IsFirstLarge, IsRefusedFor, IsTable, key_bound}
+use Rattle.load_core.specs.WorldRows.{world_columns, row_verdicts}
+
+-- two rows with a large key, each behind rows with small ones, are one
+first-same : (before early : List (List Value)) (row other : List Value) (after late : List (List Value)) (key large : ℕ) → before ++ row ∷ after ≡ early ++ other ∷ late
+    → AllByRecursion HasSmallKey before → AllByRecursion HasSmallKey early → HasKey row key → key_bound ≤ key → HasKey other large → key_bound ≤ large → key ≡ large
+first-same [] [] row other after late key large e small smaller (values, is) above (others, are) beyond =
+    let same : row ≡ other = cc in
+    cc (sym is ∙ same ∙ are)
+first-same [] (b ∷ early) row other after late key large e small smaller (values, is) above has beyond =
+    let same : row ≡ b = cc in
+    absurd (omega (arith, smaller.0 key (values, sym same ∙ is), above))
+first-same (b ∷ before) [] row other after late key large e small smaller has above (values, is) beyond =
+    let same : other ≡ b = cc in
+    absurd (omega (arith, small.0 large (values, sym same ∙ is), beyond))
+first-same (b ∷ before) (c ∷ early) row other after late key large e small smaller has above had beyond =
+    first-same before early row other after late key large (cc) small.1 smaller.1 has above had beyond
+
+-- no row of a table has a large key
+none-large : (before : List (List Value)) (row : List Value) (after : List (List Value)) (key : ℕ) → AllByRecursion HasSmallKey (before ++ row ∷ after) → HasKey row key → key < key_bound
+none-large [] row after key small has = small.0 key has
+none-large (b ∷ before) row after key small has = none-large before row after key small.1 has
+
+-- the cause that a fault of decoding is told as
+abbrev told : DecodeFault → Cause
+told (decode.Bad bad) = cause.Row bad
+told decode.TooMany = cause.Rows
+told decode.NoMemory = cause.NoMemory
+
+module _ (decodes : Decoded) (one : (a b : Result (List (List Value)) DecodeFault) → decodes a → decodes b → a ≡ b) where
+  -- a cause is a fault of decoding, or a large key
+  abbrev Faulty : Cause → Type 0
+  Faulty c = (fault : DecodeFault) × decodes (Err fault) × (c ≡ told fault)
+
+  abbrev TooLarge : Cause → Type 0
+  TooLarge c = (rows : List (List Value)) × decodes (Ok rows) × ((key : ℕ) × IsFirstLarge rows key × (c ≡ cause.Key key))
+
+  why : (c : Cause) → IsRefusedFor decodes c → Faulty c ⊎ TooLarge c
+  why (cause.Row bad) p = inl (decode.Bad bad, p, refl)
+  why cause.Rows p = inl (decode.TooMany, p, refl)
+  why (cause.Key key) (rows, d, first) = inr (rows, d, (key, first, refl))
+  why cause.Start p = absurd p
+  why cause.Read p = absurd p
+  why cause.TimedOut p = absurd p
+  why (cause.Status n) p = absurd p
+  why cause.Killed p = absurd p
+  why (cause.Longer n) p = absurd p
+  why (cause.Prefix n) p = absurd p
+  why cause.Spent p = absurd p
+  why cause.NoMemory p = absurd p
+
+  pub one-table : (rows others : List (List Value)) → IsTable decodes rows → IsTable decodes others → rows ≡ others
+  one-table rows others p q = cc (one (Ok rows) (Ok others) p.decoded q.decoded)
+
+  refused-so : (rows : List (List Value)) (c : Cause) → IsTable decodes rows → Faulty c ⊎ TooLarge c → ⊥
+  refused-so rows c t (inl (fault, d, is)) = cc (one (Ok rows) (Err fault) t.decoded d)
+  refused-so rows c t (inr (others, d, (key, first, is))) =
+      let same : rows ≡ others = cc (one (Ok rows) (Ok others) t.decoded d) in
+      absurd (omega (arith, first.large, none-large first.before first.row first.after key (subst (AllByRecursion HasSmallKey) (same ∙ first.parts) t.keys) first.here))
+
+  pub not-refused : (rows : List (List Value)) (c : Cause) → IsTable decodes rows → IsRefusedFor decodes c → ⊥
+  not-refused rows c t p = refused-so rows c t (why c p)
+
+  same-cause : (c d : Cause) → Faulty c ⊎ TooLarge c → Faulty d ⊎ TooLarge d → c ≡ d
+  same-cause c d (inl (fault, p, is)) (inl (other, q, are)) =
+      let same : fault ≡ other = cc (one (Err fault) (Err other) p q) in
+      is ∙ ap told same ∙ sym are
+  same-cause c d (inl (fault, p, is)) (inr (rows, q, found)) = absurd (cc (one (Err fault) (Ok rows) p q))
+  same-cause c d (inr (rows, p, found)) (inl (fault, q, are)) = absurd (cc (one (Ok rows) (Err fault) p q))
+  same-cause c d (inr (rows, p, (key, first, is))) (inr (others, q, (large, second, are))) =
+      let same : rows ≡ others = cc (one (Ok rows) (Ok others) p q) in
+      let keys = first-same first.before second.before first.row second.row first.after second.after key large (sym first.parts ∙ same ∙ second.parts) first.small second.small first.here first.large second.here second.large in
+      is ∙ ap cause.Key keys ∙ sym are
+
+  pub one-cause : (c d : Cause) → IsRefusedFor decodes c → IsRefusedFor decodes d → c ≡ d
+  one-cause c d p q = same-cause c d (why c p) (why d q)
+
+-- one verdict on a text
+pub one-verdict : (number : ℕ) (text : List ℕ) (verdict other : Option Cause) → row_verdicts number text verdict → row_verdicts number text other → verdict ≡ other
+one-verdict number text None None p q = refl
+one-verdict number text None (Some c) (rows, t) q = absurd (not-refused (Decodes Tab world_columns text) (one-decoding Tab world_columns text) rows c t q)
+one-verdict number text (Some c) None p (rows, t) = absurd (not-refused (Decodes Tab world_columns text) (one-decoding Tab world_columns text) rows c t p)
+one-verdict number text (Some c) (Some d) p q = ap Some (one-cause (Decodes Tab world_columns text) (one-decoding Tab world_columns text) c d p q)
