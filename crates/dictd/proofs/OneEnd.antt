@@ -57,3 +57,11 @@ one-end output ending (Failed cause) (Failed other) old new more (p, same) (q, s
 one-end output ending NoMemory other old new more p q some some' = absurd (some refl)
 one-end output ending (Published n) NoMemory old new more p q some some' = absurd (some' refl)
 one-end output ending (Failed cause) NoMemory old new more p q some some' = absurd (some' refl)
+
+-- a table of a child that ended with status 0 is published
+pub published : (output : List ℕ) (ending : PieceEnd) (end : LoadEnd) (old new : List Table) (rows : Table) → EndsLoad output ending end old new → end ≢ NoMemory → ending ≡ piece.Ended (Code (pos 0))
+    → IsTableOf output rows → (end ≡ Published (length new)) × (new ≡ old ++ rows ∷ [])
+published output ending (Published n) old new rows (ended, (others, u, list, number)) some at t =
+    (ap Published number, list ∙ ap (λ (table : Table). old ++ table ∷ []) (one-table output others rows u t))
+published output ending (Failed cause) old new rows (p, same) some at t = absurd (clash output ending rows cause at t p)
+published output ending NoMemory old new rows p some at t = absurd (some refl)

@@ -16,18 +16,18 @@ use Rattle.dictd.specs.Loads.{IsCause, most_output}
 use Rattle.dictd.specs.ThinRows.{IsTableOf, Table}
 
 -- the rows of the whole output of a child that ended with status 0, or the cause; want of memory may come at any output
-abbrev pub IsJudged : Gathered → PieceEnd → Result (Table) TableFault → Type 0
+abbrev pub IsJudged : Gathered → PieceEnd → Result Table TableFault → Type 0
 IsJudged gathered ending (Ok rows) = (ending ≡ Ended (Code (pos 0))) × (gathered.lost ≡ false) × IsTableOf gathered.bytes rows
 IsJudged gathered ending (Err (Refused cause)) = (output : List ℕ) → (gathered.lost ≡ false → gathered.bytes ≡ output) → IsCause output ending cause
 IsJudged gathered ending (Err NoMemory) = ⊤
 
 -- the same of a child's whole output, and that the child ran so
-abbrev pub IsRead : (List (List ℕ) → List ℕ → Exit → Type 0) → List (List ℕ) → List ℕ → PieceEnd → Result (Table) TableFault → Type 0
+abbrev pub IsRead : (List (List ℕ) → List ℕ → Exit → Type 0) → List (List ℕ) → List ℕ → PieceEnd → Result Table TableFault → Type 0
 IsRead ran words output ending (Ok rows) = (ending ≡ Ended (Code (pos 0))) × ran words output (Code (pos 0)) × IsTableOf output rows
 IsRead ran words output ending (Err (Refused cause)) = IsCause output ending cause
 IsRead ran words output ending (Err NoMemory) = ⊤
 
-pub record ReadsChild (old new : Option (List Script)) (ran : List (List ℕ) → List ℕ → Exit → Type 0) (words : List (List ℕ)) (result : Result (Table) TableFault) : Type 0 where
+pub record ReadsChild (old new : Option (List Script)) (ran : List (List ℕ) → List ℕ → Exit → Type 0) (words : List (List ℕ)) (result : Result Table TableFault) : Type 0 where
   pub pieces : List (List ℕ)
   pub ending : PieceEnd
   pub child : PiecesTold old new most_output pieces ending
@@ -40,7 +40,7 @@ PublishesAs old rows (Failed cause) new = ⊥
 PublishesAs old rows EndNoMemory new = new ≡ old
 
 -- a load ends by what was read: rows are published, and a fault is the end
-abbrev pub FinishesAs : List Table → Result (Table) TableFault → LoadEnd → List Table → Type 0
+abbrev pub FinishesAs : List Table → Result Table TableFault → LoadEnd → List Table → Type 0
 FinishesAs old (Ok rows) end new = PublishesAs old rows end new
 FinishesAs old (Err (Refused cause)) end new = (end ≡ Failed cause) × (new ≡ old)
 FinishesAs old (Err NoMemory) end new = (end ≡ EndNoMemory) × (new ≡ old)
