@@ -53,6 +53,15 @@ pub enum Kind {
     Pool,
 }
 
+/// Which rows a load asks for.
+#[derive(Debug, Drop)]
+pub enum Update {
+    /// All of them.
+    None,
+    /// Those that changed: the command gets this name and the moment of the last load, less so many seconds.
+    Field { name: Bytes, lag: u32 },
+}
+
 /// The program that rows come from; times are in milliseconds (`_ms`) or seconds (`_s`).
 #[derive(Debug, Drop)]
 pub struct SourceOf {
@@ -69,6 +78,7 @@ pub struct SourceOf {
     pub end_s: u32,
     pub pool_size: u32,
     pub execution_s: u32,
+    pub update: Update,
 }
 
 /// After how many seconds a version is loaded anew, at least and at most.
