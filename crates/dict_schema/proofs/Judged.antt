@@ -33,9 +33,9 @@ clear-from rule start (suc count) h =
 first-from : (rule : ℕ → Rule) (start count place : ℕ) (f : DefFault) → start ≤ place → place < start + count → ((k : ℕ) → k < place → IsClear (rule k)) → rule place f → IsFirstFault (map rule (range_with_len start count)) f
 first-from rule start zero place f le lt clear told = absurd (omega arith)
 first-from rule start (suc count) place f le lt clear told = elim (places start place le) [
-    | inl same ↦ inl (subst (λ k. rule k f) same told)
-    | inr later ↦ inr (clear start later, first-from rule (start + 1) count place f (omega arith) (omega arith) clear told)
-  ]
+  | inl same ↦ inl (subst (λ k. rule k f) same told)
+  | inr later ↦ inr (clear start later, first-from rule (start + 1) count place f (omega arith) (omega arith) clear told)
+]
 
 pub each-clear : (rule : ℕ → Rule) (count : ℕ) → ((k : ℕ) → k < count → IsClear (rule k)) → AreClear (EachOf count rule)
 each-clear rule count h = clear-from rule 0 count (λ k l. h k (omega arith))

@@ -54,9 +54,9 @@ once-more keys place i once other = record {
 
 never-more : (keys : List ℕ) (place i : ℕ) → IsNever keys place i → (slice_get keys i ≡ Some place → ⊥) → IsNever keys place (i + 1)
 never-more keys place i never other k lt is = elim (cases_eq k i) [
-    | inl e ↦ other (ap (slice_get keys) (sym e) ∙ is)
-    | inr n ↦ never k (omega arith) is
-  ]
+  | inl e ↦ other (ap (slice_get keys) (sym e) ∙ is)
+  | inr n ↦ never k (omega arith) is
+]
 
 pub seen-first : (keys : List ℕ) (place i : ℕ) (s t : Bool) → IsSeen keys place i s → s ≡ false → slice_get keys i ≡ Some place → t ≡ true → IsSeen keys place (i + 1) t
 seen-first keys place i true t h unseen here seen = absurd (cc unseen)

@@ -17,7 +17,7 @@ columns-append d role xs ys = filter_map-append (λ place. option_map (shape_col
 pub more-columns : (d : Definition) (role : Role) (shape before after : List ShapeColumn) (places more : List ℕ) → before ≡ shape ++ columns_at d role places → after ≡ before ++ columns_at d role more → after ≡ shape ++ columns_at d role (places ++ more)
 more-columns d role shape before after places more p q =
     q ∙ ap (λ (z : List ShapeColumn). z ++ columns_at d role more) p ∙ append_assoc shape (columns_at d role places) (columns_at d role more)
-      ∙ ap (λ (z : List ShapeColumn). shape ++ z) (sym (columns-append d role places more))
+    ∙ ap (λ (z : List ShapeColumn). shape ++ z) (sym (columns-append d role places more))
 
 -- one more number
 pub range-more : (a n : ℕ) → range_with_len a (n + 1) ≡ range_with_len a n ++ ((a + n) ∷ [])
@@ -39,7 +39,7 @@ filter-one p n b h = ap (λ (t : Bool). if t then n ∷ [] else []) h
 filter-next : (p : ℕ → Bool) (n : ℕ) → filter p (range_with_len 0 (n + 1)) ≡ filter p (range_with_len 0 n) ++ filter p (n ∷ [])
 filter-next p n =
     ap (filter p) (range-more 0 n) ∙ filter-append p (range_with_len 0 n) ((0 + n) ∷ [])
-      ∙ ap (λ (k : ℕ). filter p (range_with_len 0 n) ++ filter p (k ∷ [])) (zero-plus n)
+    ∙ ap (λ (k : ℕ). filter p (range_with_len 0 n) ++ filter p (k ∷ [])) (zero-plus n)
 
 pub filter-passed : (p : ℕ → Bool) (n : ℕ) → p n ≡ true → filter p (range_with_len 0 (n + 1)) ≡ filter p (range_with_len 0 n) ++ n ∷ []
 filter-passed p n h = filter-next p n ∙ ap (λ (z : List ℕ). filter p (range_with_len 0 n) ++ z) (filter-one p n true h)

@@ -107,7 +107,7 @@ pub record HasRange (d : Definition) : Type 0 where
 abbrev pub AreBadEnds : Definition → ℕ → ℕ → Column → Column → Type 0
 AreBadEnds d start end first last =
     (first.ty.base ≢ last.ty.base) ⊎ (IsTrue (is_key d start) ⊎ (IsTrue (is_key d end)
-        ⊎ ((start ≡ end) ⊎ (is_range_type first.ty.base ≡ false))))
+    ⊎ ((start ≡ end) ⊎ (is_range_type first.ty.base ≡ false))))
 
 -- the definition has a range, and something is wrong with its ends
 abbrev pub HasBadRange : Definition → Type 0

@@ -116,7 +116,7 @@ IsParentBefore d place =
 abbrev pub IsBadParent : Definition → ℕ → Type 0
 IsBadParent d place =
     (column : Column) × (slice_get d.columns place ≡ Some column) × IsTrue column.hierarchical
-        × ((is_attribute d place ≡ false) ⊎ ((column.ty.base ≢ UInt64) ⊎ IsParentBefore d place))
+    × ((is_attribute d place ≡ false) ⊎ ((column.ty.base ≢ UInt64) ⊎ IsParentBefore d place))
 
 -- the default of the column at this place is no value of its type
 abbrev pub IsBadDefault : Definition → ℕ → Type 0

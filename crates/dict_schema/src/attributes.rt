@@ -1,6 +1,5 @@
 // The columns that name a parent, and the defaults.
 ghost use Rattle.std.specs.Prelude.{◌≡◌, ◌≢◌, ◌<◌, ◌≤◌, ◌+◌, ◌↔◌, ◌⊎◌, IsTrue, true, false, length};
-ghost use Rattle.dict_value.specs.Values.{FitsColumn, HasType};
 ghost use Rattle.dict_schema.specs.declared.fault.DefFault.TheVariants as fault;
 ghost use Rattle.dict_value.specs.declared.value.ColType.TheVariants.{UInt64};
 ghost use Rattle.dict_schema.specs.Parts.{is_attribute};
@@ -11,7 +10,7 @@ use crate::definition::Definition;
 use crate::fault::DefFault;
 use crate::judging::{Rules, judge_each};
 use crate::parts::{column_at, is_attribute};
-use dict_value::{AttrType, ColType, Value};
+use dict_value::{ColType, fits_column};
 
 /// Judges the columns that name a parent, and the defaults.
 pub(crate) fn judge_attributes(d: &Definition) -> Result<(), DefFault>
@@ -85,44 +84,10 @@ impl Rules for Defaults<'_> {
 
     fn judge(&self, place: usize) -> Result<(), DefFault> {
         match column_at(self.d, place) {
-            Some(column) if !fits(&column.ty, &column.default) => {
+            Some(column) if !fits_column(&column.ty, &column.default) => {
                 Err(DefFault::BadDefault(place as u32 + 1))
             }
             _ => Ok(()),
         }
-    }
-}
-
-/// Whether a value is one of a column's type, or Null where that may be NULL.
-fn fits(t: &AttrType, v: &Value) -> bool
-    ensures { IsTrue result ↔ FitsColumn t.now v.now }
-{
-    match v {
-        Value::Null => t.nullable,
-        _ => has_type(t.base, v),
-    }
-}
-
-/// Whether a value is one of a type, Null aside.
-fn has_type(t: ColType, v: &Value) -> bool
-    ensures { IsTrue result ↔ HasType t v.now }
-{
-    match (t, v) {
-        (ColType::UInt8, Value::U(n)) => *n < 1 << 8,
-        (ColType::UInt16, Value::U(n)) => *n < 1 << 16,
-        (ColType::UInt32, Value::U(n)) => *n < 1 << 32,
-        (ColType::UInt64, Value::U(_)) => true,
-        (ColType::Int8, Value::I(z)) => i8::try_from(*z).is_ok(),
-        (ColType::Int16, Value::I(z)) => i16::try_from(*z).is_ok(),
-        (ColType::Int32, Value::I(z)) => i32::try_from(*z).is_ok(),
-        (ColType::Int64, Value::I(_)) => true,
-        (ColType::Str, Value::S(_)) => true,
-        (ColType::Date, Value::Day(_)) => true,
-        (ColType::DateTime, Value::Second(_)) => true,
-        (ColType::Uuid, Value::Id(_)) => true,
-        (ColType::Ipv4, Value::V4(_)) => true,
-        (ColType::Ipv6, Value::V6(_)) => true,
-        (ColType::Decimal(digits, _), Value::Dec(z)) => z.unsigned_abs() < 10u128.pow(u32::from(digits.min(38))),
-        _ => false,
     }
 }

@@ -2,7 +2,8 @@
 ghost use Rattle.std.specs.Prelude.{◌≡◌, ◌≤◌, length};
 ghost use Rattle.dict_schema.specs.Judging.{IsJudged, IsTold};
 ghost use Rattle.dict_schema.specs.Table.{LayoutWithin, counts, settings, table};
-ghost use Rattle.dict_schema.specs.Table.{arguments, function_counts, function_settings, function_source, function_table};
+ghost use Rattle.dict_schema.specs.Table.{arguments, function_counts, function_settings, function_source};
+ghost use Rattle.dict_schema.specs.Table.{function_table};
 
 use crate::attributes::judge_attributes;
 use crate::definition::{Definition, FunctionDef, Layout};
@@ -12,6 +13,9 @@ use crate::keys::{judge_arguments, judge_keys};
 use crate::names::{judge_argument_names, judge_column_names};
 use crate::ranges::judge_ranges;
 use crate::sources::{judge_function_source, judge_source};
+
+#[cfg(test)]
+mod tests;
 
 /// Answers Ok where no fault stands in a definition, else the first in the order of `DefFault`. It takes no memory.
 pub fn check(d: &Definition) -> Result<(), DefFault>

@@ -3,7 +3,8 @@ ghost use Rattle.std.specs.Prelude.{◌≡◌, ◌<◌, ◌≤◌, ◌+◌, ◌�
 ghost use Rattle.dict_schema.specs.declared.fault.DefFault.TheVariants as fault;
 ghost use Rattle.dict_schema.specs.Judging.{IsJudged, IsTold, Where};
 ghost use Rattle.dict_schema.specs.Parts.{HasOneKey, argument_names};
-ghost use Rattle.dict_schema.specs.Table.{IsDuplicate, IsKeyTwice, IsMissingKey, IsNamedBefore, IsNullableKey, LacksOneKey, arguments, keys};
+ghost use Rattle.dict_schema.specs.Table.{IsDuplicate, IsKeyTwice, IsMissingKey, IsNamedBefore, IsNullableKey};
+ghost use Rattle.dict_schema.specs.Table.{LacksOneKey, arguments, keys};
 
 use crate::definition::{Definition, FunctionDef};
 use crate::fault::DefFault;

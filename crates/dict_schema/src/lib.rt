@@ -17,6 +17,8 @@ mod names;
 mod parts;
 mod ranges;
 pub mod shapes;
+#[cfg(test)]
+mod sketch;
 mod sources;
 
 pub use checks::{check, check_function};

@@ -15,7 +15,10 @@ pub(crate) fn column_at(d: &Definition, place: usize) -> Option<&Column>
 pub(crate) fn is_key(d: &Definition, place: usize) -> bool
     ensures { result ≡ is_key d.now place }
 {
-    d.keys.as_slice().iter().any(|key| usize::from(*key) == place)
+    d.keys
+        .as_slice()
+        .iter()
+        .any(|key| usize::from(*key) == place)
 }
 
 /// Whether an end of the range stands at a place.
@@ -24,7 +27,8 @@ fn is_end(range: &RangeOf, place: usize) -> bool
 {
     match range {
         RangeOf::None => false,
-        RangeOf::Columns { start, end } => place == usize::from(*start) || place == usize::from(*end),
+        RangeOf::Columns { start, end } => place == usize::from(*start)
+            || place == usize::from(*end),
     }
 }
 

@@ -1,11 +1,15 @@
 // The columns of a row as a child prints it.
 ghost use Rattle.std.specs.Prelude.{◌≡◌, ◌++◌, ◌<◌, ℕ, List, [], ◌∷◌, IfOk, OnOk, take, length};
-ghost use Rattle.dict_schema.specs.Shapes.{attribute_columns, columns_at, end_columns, keyed_shape_of, shape_column, shape_of};
+ghost use Rattle.dict_schema.specs.Shapes.{attribute_columns, columns_at, end_columns, keyed_shape_of, shape_column};
+ghost use Rattle.dict_schema.specs.Shapes.{shape_of};
 
 use crate::definition::{Definition, RangeOf, Role, Shape, ShapeColumn};
 use crate::parts::{column_at, is_attribute};
 use dict_value::{ListOf, NoMemory, copy_value};
 use std::alloc::Global;
+
+#[cfg(test)]
+mod tests;
 
 /// The columns of a row: the keys in the order of PRIMARY KEY, the start and the end of the range, then the others
 /// in the order of the definition.
@@ -33,7 +37,13 @@ pub fn keyed_shape(alloc: Global, d: &Definition) -> Result<Shape, NoMemory>
 }
 
 /// Appends the column at a place, where there is one.
-fn push_column(alloc: Global, d: &Definition, role: Role, place: usize, shape: &mut Shape) -> Result<(), NoMemory>
+fn push_column(
+    alloc: Global,
+    d: &Definition,
+    role: Role,
+    place: usize,
+    shape: &mut Shape,
+) -> Result<(), NoMemory>
     ensures { OnOk result (shape.new ≡ shape.old ++ columns_at d.now role (place ∷ [])) }
 {
     let Some(column) = column_at(d, place) else {

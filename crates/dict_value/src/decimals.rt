@@ -78,7 +78,7 @@ fn scaled_of(text: &[u8], scale: u8) -> Option<u128>
 }
 
 /// The bound of the numbers of so many digits, of which a Decimal has at most [`DECIMAL_DIGITS`].
-fn bound_of(digits: u8) -> u128
+pub(crate) fn bound_of(digits: u8) -> u128
     ensures value { result ≡ 10 ^ min digits DECIMAL_DIGITS }
     ensures bound { result ≤ 10 ^ DECIMAL_DIGITS }
 {

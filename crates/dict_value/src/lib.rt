@@ -24,6 +24,7 @@ mod decimals;
 mod decimals_tests;
 pub mod digit_text;
 pub mod fault;
+mod fits;
 mod identifiers;
 #[cfg(test)]
 mod identifiers_tests;
@@ -47,6 +48,7 @@ pub use bytes::Bytes;
 pub use counted::{Counted, Counter, Tally, Uncounted};
 pub use digit_text::read_digits;
 pub use fault::{BadRow, BlockFault, CallFault, Cause, Exit, FetchFault, LineFault, NoMemory, Why};
+pub use fits::fits_column;
 pub use laws::{
     addresses_by_grammar, each_field_is_read, one_place_is_found, read_is_typed, written_is_read,
 };

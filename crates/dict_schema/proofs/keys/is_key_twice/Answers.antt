@@ -10,9 +10,9 @@ returns-then-seen c =
 
 pub loop-key-preserved : goal.loop-key-preserved
 loop-key-preserved c = elim c.if-from-place.branch [
-    | then-from-place+else-seen w ↦ seen-first c.args.keys.now c.args.place c.loop-key.key-index c.loop-key.seen c.if-from-place.seen c.loop-key.invariant w.if-seen.false (key-at c.args.keys.now c.loop-key.key-index c.from.result c.args.place c.loop-key-test.true c.from.ensures w.if-from-place.true) w.seen-is
-    | else-from-place w ↦ seen-other c.args.keys.now c.args.place c.loop-key.key-index c.loop-key.seen c.if-from-place.seen c.loop-key.invariant (key-not-at c.args.keys.now c.loop-key.key-index c.from.result c.args.place c.loop-key-test.true c.from.ensures w.if-from-place.false) w.seen-is
-  ]
+  | then-from-place+else-seen w ↦ seen-first c.args.keys.now c.args.place c.loop-key.key-index c.loop-key.seen c.if-from-place.seen c.loop-key.invariant w.if-seen.false (key-at c.args.keys.now c.loop-key.key-index c.from.result c.args.place c.loop-key-test.true c.from.ensures w.if-from-place.true) w.seen-is
+  | else-from-place w ↦ seen-other c.args.keys.now c.args.place c.loop-key.key-index c.loop-key.seen c.if-from-place.seen c.loop-key.invariant (key-not-at c.args.keys.now c.loop-key.key-index c.from.result c.args.place c.loop-key-test.true c.from.ensures w.if-from-place.false) w.seen-is
+]
 
 pub returns : goal.returns
 returns c =

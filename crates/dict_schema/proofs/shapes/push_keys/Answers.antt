@@ -11,12 +11,11 @@ loop-key-preserved c =
     let keys = c.as_slice-key-items.result.now in
     let pushed = more-columns c.args.d.now Key c.args.shape.now c.loop-key.shape c.push_column.new.shape (take c.loop-key.key-index keys) (c.from.result ∷ []) c.loop-key.invariant c.in_ok-push_column.ensures in
     let next : take c.loop-key.key-index keys ++ c.from.result ∷ [] ≡ take (c.loop-key.key-index + 1) keys =
-        ap (λ (k : ℕ). take c.loop-key.key-index keys ++ k ∷ []) c.from.ensures ∙ sym (take_more keys c.loop-key.key-index 0 c.loop-key-test.true) in
+    ap (λ (k : ℕ). take c.loop-key.key-index keys ++ k ∷ []) c.from.ensures ∙ sym (take_more keys c.loop-key.key-index 0 c.loop-key-test.true) in
     subst (λ (places : List ℕ). c.push_column.new.shape ≡ c.args.shape.now ++ columns_at c.args.d.now Key places) next pushed
 
 pub returns : goal.returns
 returns c =
     let keys = c.as_slice-key-items.result.now in
-    let end : c.loop-key.key-index ≡ length keys = omega arith in
-    let all : take c.loop-key.key-index keys ≡ c.args.d.now.keys = ap (λ (n : ℕ). take n keys) end ∙ take_all keys ∙ c.as_slice-key-items.ensures in
+    let all : take c.loop-key.key-index keys ≡ c.args.d.now.keys = take_all c.loop-key.key-index keys c.loop-key-test.false ∙ c.as_slice-key-items.ensures in
     subst (λ (places : List ℕ). c.loop-key.shape ≡ c.args.shape.now ++ columns_at c.args.d.now Key places) all c.loop-key.invariant
