@@ -6,21 +6,21 @@ use Rattle.dict_value.specs.declared.value.BadValue.{BadValue}
 use Rattle.dict_value.specs.declared.value.BadValue.TheVariants as value
 use Rattle.dict_value.specs.declared.value.Field.{Field}
 use Rattle.dict_value.specs.declared.value.Value.{Value}
-use Rattle.row_text.specs.Decoding.{Column, Reads, readings}
-use Rattle.row_text.specs.DecodeSteps.{TakeAll, column_fault}
+use Rattle.row_text.specs.Decoding.{Reader, Reads, readings}
+use Rattle.row_text.specs.steps.DecodeSteps.{TakeAll, column_fault}
 
 -- the next field goes to the column at its place, and those behind it to the columns behind that one
-pub record Turn (columns : List Column) (before : List Field) (field : Field) (more : List Field) : Type 0 where
-  pub column : Column
-  pub later : List Column
+pub record Turn (columns : List Reader) (before : List Field) (field : Field) (more : List Field) : Type 0 where
+  pub column : Reader
+  pub later : List Reader
   pub here : slice_get columns (length before) ≡ Some column
   pub parts : readings columns (before ++ field ∷ more) ≡ readings columns before ++ column field ∷ readings later more
 
 -- what was read of a field is what the column at its place makes of it
-abbrev pub Taken : List Column → List Field → Field → Result Value BadValue → Type 0
-Taken columns before field made = (column : Column) → slice_get columns (length before) ≡ Some column → Reads column field made
+abbrev pub Taken : List Reader → List Field → Field → Result Value BadValue → Type 0
+Taken columns before field made = (column : Reader) → slice_get columns (length before) ≡ Some column → Reads column field made
 
-pub turn : (columns : List Column) (before : List Field) (field : Field) (more : List Field) → length before < length columns → Turn columns before field more
+pub turn : (columns : List Reader) (before : List Field) (field : Field) (more : List Field) → length before < length columns → Turn columns before field more
 turn [] before field more below = absurd (omega arith)
 turn (c ∷ cs) [] field more below = record { column = c; later = cs; here = refl; parts = refl }
 turn (c ∷ cs) (b ∷ bs) field more below =
@@ -28,12 +28,12 @@ turn (c ∷ cs) (b ∷ bs) field more below =
     record { column = next.column; later = next.later; here = next.here; parts = ap (λ (t : List (Result Value BadValue)). c b ∷ t) next.parts }
 
 -- no field, no value
-pub readings-none : (columns : List Column) → readings columns [] ≡ []
+pub readings-none : (columns : List Reader) → readings columns [] ≡ []
 readings-none [] = refl
 readings-none (c ∷ cs) = refl
 
 -- one more value
-pub read-more : (columns : List Column) (before : List Field) (field : Field) (row : List Value) (value : Value)
+pub read-more : (columns : List Reader) (before : List Field) (field : Field) (row : List Value) (value : Value)
     → length before < length columns → readings columns before ≡ map Ok row → Taken columns before field (Ok value)
     → readings columns (before ++ field ∷ []) ≡ map Ok (row ++ value ∷ [])
 read-more columns before field row value below read taken =
@@ -43,7 +43,7 @@ read-more columns before field row value below read taken =
     ∙ ap (λ (xs : List (Result Value BadValue)). xs ++ Ok value ∷ []) read ∙ sym (map-append Ok row (value ∷ []))
 
 -- the first fault
-pub read-fault : (columns : List Column) (fields before : List Field) (field : Field) (more : List Field) (row : List Value) (fault : BadValue)
+pub read-fault : (columns : List Reader) (fields before : List Field) (field : Field) (more : List Field) (row : List Value) (fault : BadValue)
     → fields ≡ before ++ field ∷ more → length row ≡ length before → length before < length columns → readings columns before ≡ map Ok row → Taken columns before field (Err fault)
     → TakeAll columns fields (Err (column_fault (length row) fault))
 read-fault columns fields before field more row fault split count below read taken =

@@ -2,7 +2,7 @@ use Rattle.std.proofs.Common.{◌≢◌, ◌∙◌, ◌==◌, [], ℕ, List, len
 use Rattle.std.proofs.lemmas.List.{nil_from_length}
 use Rattle.std.proofs.lemmas.Bool.{eqb-true}
 use Rattle.row_text.specs.declared.cutter.CutRule.{CutRule}
-use Rattle.row_text.specs.Cutting.{BeginsWithLine}
+use Rattle.row_text.specs.steps.CutSteps.{BeginsWithLine}
 use Rattle.row_text.specs.Decoding.{rule_of}
 use Rattle.row_text.proofs.Decoded.{done-all, done-fault, done-more, handed-on, rest-shorter, rows-few}
 use Rattle.row_text.proofs.decode.decode_rows.Goals as goal
@@ -30,4 +30,4 @@ pub returns : goal.returns
 returns g c =
     let none = nil_from_length c.loop-left.left.now (eqb-true (length c.loop-left.left.now) 0 (sym c.loop-left-test.ensures)) in
     let all = done-all c.args.format (g.C.Columns.columns c.args.columns.now) c.args.text.now c.loop-left.left.now c.loop-left.number c.loop-left.rows none c.loop-left.invariant.done in
-    record { lines = all.0; cut = all.1; typed = all.2; few = c.loop-left.invariant.few }
+    λ _. record { lines = all.0; cut = all.1; typed = all.2; few = c.loop-left.invariant.few }

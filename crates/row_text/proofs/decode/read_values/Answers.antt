@@ -4,7 +4,7 @@ use Rattle.std.specs.Vec.Iter.{into_iter_items}
 use Rattle.std.proofs.lemmas.List.{length-append}
 use Rattle.dict_value.specs.declared.value.Field.{Field}
 use Rattle.row_text.specs.declared.decode.RowFault.{RowFault}
-use Rattle.row_text.specs.DecodeSteps.{TakeAll, column_fault}
+use Rattle.row_text.specs.steps.DecodeSteps.{TakeAll, column_fault}
 use Rattle.row_text.proofs.Readings.{read-fault, read-more, readings-none}
 use Rattle.row_text.proofs.decode.read_values.Goals as goal
 
