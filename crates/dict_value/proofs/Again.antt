@@ -9,7 +9,7 @@ use Rattle.dict_value.specs.declared.value.BadValue.TheVariants.{NotANumber}
 use Rattle.std.proofs.lemmas.Bool.Decides.{nat_tests}
 use Rattle.std.specs.Fmt.{signed_decimal}
 use Rattle.dict_value.specs.Numbers.{given, below, within, is_within, unsigned_in, signed_in, number_in}
-use Rattle.dict_value.specs.Values.{as_value, HasType, FitsColumn, text_of, text_reading}
+use Rattle.dict_value.specs.Values.{as_value, HasType, FitsColumn, value_text, text_reading}
 use Rattle.dict_value.proofs.Digits.{few_digits}
 use Rattle.dict_value.proofs.WrittenBytes.{id_again, v4_again, v6_again}
 use Rattle.dict_value.proofs.WrittenDates.{date_again, second_again}
@@ -30,8 +30,8 @@ unsigned bound n small fits = rw (unsigned_again n fits, in_bounds bound n small
 signed : (bound : ℕ) (z : ℤ) → is_within bound z ≡ true → bound < 10 ^ 64 → as_value I (given (signed_in number_in (signed_decimal z)) NotANumber (within bound)) ≡ Ok (I z)
 signed bound z inside fits = rw (signed_again z (omega (arith, magnitude bound z inside)), inside) refl
 
-pub read_again : (t : ColType) (v : Value) → HasType t v → text_reading t (text_of t v) ≡ Ok v
-unfolding text_reading text_of
+pub read_again : (t : ColType) (v : Value) → HasType t v → text_reading t (value_text t v) ≡ Ok v
+unfolding text_reading value_text
 read_again type.UInt8 (U n) h = unsigned (2 ^ 8) n h (omega arith)
 read_again type.UInt16 (U n) h = unsigned (2 ^ 16) n h (omega arith)
 read_again type.UInt32 (U n) h = unsigned (2 ^ 32) n h (omega arith)

@@ -6,6 +6,7 @@ use Rattle.std.specs.Net.Addr.{octets_of, segments_of}
 use Rattle.std.specs.Net.Grammar.{IsDotted, IsColonHex}
 use Rattle.std.specs.Net.Reader.{read_ipv4, read_ipv6, whole_value}
 use Rattle.std.specs.Net.Text.{ipv4_text, ipv6_text}
+use Rattle.dict_value.specs.Letters.{digit_zero, slash}
 use Rattle.dict_value.specs.declared.value.BadValue.{BadValue}
 use Rattle.dict_value.specs.declared.value.BadValue.TheVariants.{BadAddress}
 use Rattle.dict_value.specs.declared.value.Address.{Address}
@@ -52,7 +53,7 @@ v6_text n = ipv6_text (segments_of (to_be_bytes w128 n))
 -- a number without leading zeros, at most `most`
 abbrev pub length_in : ℕ → List ℕ → Option ℕ
 length_in most text =
-    if not (slice_index text 0 == 48) || (length text == 1)
+    if not (slice_index text 0 == digit_zero) || (length text == 1)
     then option_and_then (λ n. if nat_le n most then Some n else None) (number_in text) else None
 
 -- a number of `width` bits with all but its first `count` bits cleared
@@ -79,12 +80,12 @@ abbrev pub width_of : Address → ℕ
 width_of (address.V4 n) = 32
 width_of (address.V6 n) = 128
 
--- the length behind a slash (47), or the whole width where there is none
+-- the length behind a slash, or the whole width where there is none
 abbrev pub prefix_len_in : ℕ → List ℕ → Option ℕ
 prefix_len_in width rest = if length rest == 0 then Some width else length_in width (drop 1 rest)
 
 -- the prefix that a text writes
 unfoldable pub prefix_in : List ℕ → Option Prefix
 prefix_in text =
-    option_and_then (λ a. option_map (prefix_of a) (prefix_len_in (width_of a) (from_byte 47 text)))
-    (address_in (before_byte 47 text))
+    option_and_then (λ a. option_map (prefix_of a) (prefix_len_in (width_of a) (from_byte slash text)))
+    (address_in (before_byte slash text))

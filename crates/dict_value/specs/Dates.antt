@@ -6,6 +6,8 @@ use Rattle.std.specs.List.{count_by, range_with_len}
 use Rattle.std.specs.Str.{all_ascii_digits}
 use Rattle.std.specs.Str.Parse.{digits_value}
 use Rattle.jiff_core.specs.Calendar.{days_from_civil, days_in_month}
+use Rattle.dict_value.specs.Letters.{colon, digit_zero, minus, space}
+use Rattle.dict_value.specs.declared.dates.TheConstants.{DAY_SECONDS}
 use Rattle.dict_value.specs.declared.value.BadValue.{BadValue}
 use Rattle.dict_value.specs.declared.value.BadValue.TheVariants.{BadDate, OutOfRange}
 use Rattle.dict_value.specs.Numbers.{given, below}
@@ -32,8 +34,8 @@ is_civil c =
 -- four digits, `-`, two digits, `-`, two digits
 abbrev pub has_date_form : List ℕ → Bool
 has_date_form text =
-    (length text == 10) && all_ascii_digits (take 4 text) && (slice_index text 4 == 45)
-    && all_ascii_digits (take 2 (drop 5 text)) && (slice_index text 7 == 45)
+    (length text == 10) && all_ascii_digits (take 4 text) && (slice_index text 4 == minus)
+    && all_ascii_digits (take 2 (drop 5 text)) && (slice_index text 7 == minus)
     && all_ascii_digits (take 2 (drop 8 text))
 
 -- the year, month and day of a text of that form
@@ -62,8 +64,8 @@ date_of text = given (day_in text) BadDate (from_zero_below (2 ^ 16))
 -- two digits, `:`, two digits, `:`, two digits
 abbrev pub has_clock_form : List ℕ → Bool
 has_clock_form text =
-    (length text == 8) && all_ascii_digits (take 2 text) && (slice_index text 2 == 58)
-    && all_ascii_digits (take 2 (drop 3 text)) && (slice_index text 5 == 58)
+    (length text == 8) && all_ascii_digits (take 2 text) && (slice_index text 2 == colon)
+    && all_ascii_digits (take 2 (drop 3 text)) && (slice_index text 5 == colon)
     && all_ascii_digits (drop 6 text)
 
 -- the second of the day that a text writes
@@ -79,7 +81,7 @@ clock_in text =
 abbrev pub second_after : Option ℤ → Option ℕ → Option ℤ
 second_after None clock = None
 second_after (Some day) None = None
-second_after (Some day) (Some n) = Some (day *ℤ pos 86400 +ℤ pos n)
+second_after (Some day) (Some n) = Some (day *ℤ pos DAY_SECONDS +ℤ pos n)
 
 -- five to ten digits, which write the second itself
 abbrev pub plain_second_in : List ℕ → Option ℤ
@@ -90,7 +92,7 @@ plain_second_in text =
 -- a date, a space and a time
 abbrev pub civil_second_in : List ℕ → Option ℤ
 civil_second_in text =
-    if slice_index text 10 == 32
+    if slice_index text 10 == space
     then second_after (day_in (take 10 text)) (clock_in (drop 11 text))
     else None
 
@@ -120,15 +122,15 @@ civil_of_day n =
 
 -- two digits
 abbrev pub two : ℕ → List ℕ
-two n = (48 + n / 10) ∷ (48 + n % 10) ∷ []
+two n = (digit_zero + n / 10) ∷ (digit_zero + n % 10) ∷ []
 
 -- the text of a day: four digits, two and two
 abbrev pub date_text : Civil → List ℕ
-date_text c = two (c.year / 100) ++ two (c.year % 100) ++ 45 ∷ two c.month ++ 45 ∷ two c.day
+date_text c = two (c.year / 100) ++ two (c.year % 100) ++ minus ∷ two c.month ++ minus ∷ two c.day
 
 -- the text of a second of the day
 abbrev pub clock_text : ℕ → List ℕ
-clock_text n = two (n / 3600) ++ 58 ∷ two (n / 60 % 60) ++ 58 ∷ two (n % 60)
+clock_text n = two (n / 3600) ++ colon ∷ two (n / 60 % 60) ++ colon ∷ two (n % 60)
 
 -- the text of the day with this number
 abbrev pub day_text : ℕ → List ℕ
@@ -136,4 +138,4 @@ day_text n = date_text (civil_of_day n)
 
 -- the text of a second
 abbrev pub second_text : ℕ → List ℕ
-second_text n = day_text (n / 86400) ++ 32 ∷ clock_text (n % 86400)
+second_text n = day_text (n / DAY_SECONDS) ++ space ∷ clock_text (n % DAY_SECONDS)

@@ -3,7 +3,9 @@ pub mod Addresses
 pub mod Dates
 pub mod Decimals
 pub mod Digits
+pub mod FindByKey
 pub mod Identifiers
+pub mod Letters
 pub mod Memory
 pub mod Numbers
 pub mod Split

@@ -1,5 +1,5 @@
 -- What each type reads and writes: the values of the ClickHouse documentation's types, in this profile.
-use Rattle.std.specs.Prelude.{◌≡◌, ℕ, ◌^◌, ◌<◌, IsTrue, if◌then◌else◌, List, [], Result, Ok, Err, pos, decimal, unsigned_abs, min}
+use Rattle.std.specs.Prelude.{◌≡◌, ◌≢◌, ℕ, ◌^◌, ◌<◌, IsTrue, if◌then◌else◌, List, [], Result, Ok, Err, pos, decimal, unsigned_abs, min}
 use Rattle.std.specs.Fmt.{signed_decimal}
 use Rattle.dict_value.specs.declared.value.ColType.{ColType}
 use Rattle.dict_value.specs.declared.value.ColType.TheVariants as type
@@ -9,7 +9,8 @@ use Rattle.dict_value.specs.declared.value.Field.TheVariants as field
 use Rattle.dict_value.specs.declared.value.Value.{Value}
 use Rattle.dict_value.specs.declared.value.Value.TheVariants.{U, I, S, Day, Second, Id, V4, V6, Dec, Null}
 use Rattle.dict_value.specs.declared.value.BadValue.{BadValue}
-use Rattle.dict_value.specs.declared.value.BadValue.TheVariants.{NullNotAllowed, NoMemory}
+use Rattle.dict_value.specs.declared.value.BadValue.TheVariants.{NullNotAllowed}
+use Rattle.dict_value.specs.declared.decimals.TheConstants.{DECIMAL_DIGITS}
 use Rattle.dict_value.specs.Numbers.{unsigned_of, signed_of, is_within}
 use Rattle.dict_value.specs.Decimals.{decimal_of, decimal_text}
 use Rattle.dict_value.specs.Dates.{date_of, second_of, day_text, second_text}
@@ -44,15 +45,19 @@ abbrev pub reading : AttrType → Field → Result Value BadValue
 reading t field.Null = if t.nullable then Ok Null else Err NullNotAllowed
 reading t (field.Text text) = text_reading t.base text
 
--- r is the reading of the text, or at a String that no memory was found
-abbrev pub GivesText : ColType → List ℕ → Result Value BadValue → Type 0
-GivesText type.Str text (Err NoMemory) = Unit {0}
-GivesText t text r = r ≡ text_reading t text
+-- the text of a String, which takes memory; that of no bytes takes none
+abbrev pub IsStringText : ColType → List ℕ → Type 0
+IsStringText t text = (t ≡ type.Str) × (text ≢ [])
 
 -- the same of a field; NULL takes no memory
-abbrev pub Gives : AttrType → Field → Result Value BadValue → Type 0
-Gives t field.Null r = r ≡ reading t field.Null
-Gives t (field.Text text) r = GivesText t.base text r
+abbrev pub IsStringField : AttrType → Field → Type 0
+IsStringField t field.Null = ⊥
+IsStringField t (field.Text text) = IsStringText t.base text
+
+-- the same of a value
+abbrev pub IsStringValue : Value → Type 0
+IsStringValue (S text) = text ≢ []
+IsStringValue v = ⊥
 
 -- a value of a type, Null aside
 abbrev pub HasType : ColType → Value → Type 0
@@ -70,7 +75,7 @@ HasType type.DateTime (Second n) = n < 2 ^ 32
 HasType type.Uuid (Id n) = n < 2 ^ 128
 HasType type.Ipv4 (V4 n) = n < 2 ^ 32
 HasType type.Ipv6 (V6 n) = n < 2 ^ 128
-HasType (type.Decimal digits scale) (Dec z) = unsigned_abs z < 10 ^ min digits 38
+HasType (type.Decimal digits scale) (Dec z) = unsigned_abs z < 10 ^ min digits DECIMAL_DIGITS
 HasType t v = ⊥
 
 -- a value of a column: one of its type, or Null where that is allowed
@@ -84,17 +89,17 @@ scale_of (type.Decimal digits scale) = scale
 scale_of t = 0
 
 -- the one text of a value
-unfoldable pub text_of : ColType → Value → List ℕ
-text_of t (U n) = decimal n
-text_of t (I z) = signed_decimal z
-text_of t (S text) = text
-text_of t (Day n) = day_text n
-text_of t (Second n) = second_text n
-text_of t (Id n) = id_text n
-text_of t (V4 n) = v4_text n
-text_of t (V6 n) = v6_text n
-text_of t (Dec z) = decimal_text (scale_of t) z
-text_of t Null = []
+unfoldable pub value_text : ColType → Value → List ℕ
+value_text t (U n) = decimal n
+value_text t (I z) = signed_decimal z
+value_text t (S text) = text
+value_text t (Day n) = day_text n
+value_text t (Second n) = second_text n
+value_text t (Id n) = id_text n
+value_text t (V4 n) = v4_text n
+value_text t (V6 n) = v6_text n
+value_text t (Dec z) = decimal_text (scale_of t) z
+value_text t Null = []
 
 -- what stands where no value is given
 abbrev pub default_value : ColType → Value

@@ -66,14 +66,6 @@ fn address_in(text: &[u8]) -> Option<Address>
     }
 }
 
-/// A text is read as an address exactly where it writes it, in four octets or in eight groups. The
-/// types IPv4 and IPv6, addresses and prefixes all read by these three.
-pub fn addresses_by_grammar()
-    ensures v4 { (text : List ℕ) (n : ℕ) → (v4_in text ≡ Some n) ↔ IsV4 text n }
-    ensures v6 { (text : List ℕ) (n : ℕ) → (v6_in text ≡ Some n) ↔ IsV6 text n }
-    ensures either { (text : List ℕ) (a : Address) → (address_in text ≡ Some a) ↔ IsAddress text a }
-{}
-
 /// The address of either family that a text writes.
 pub fn read_address(text: &[u8]) -> Result<Address, BadValue>
     ensures value { result ≡ given (address_in text.now) BadAddress Ok }

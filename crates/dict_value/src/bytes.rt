@@ -1,5 +1,5 @@
 // A list of bytes over a `Vec`, which contracts see as a list of numbers.
-ghost use Rattle.std.specs.Prelude.{◌≡◌, [], ◌∷◌, ◌++◌, ◌<◌, ◌≤◌, ◌+◌, ◌↔◌, take, length, replicate, OnOk, OnErr, IfOk, IsTrue};
+ghost use Rattle.std.specs.Prelude.{◌≡◌, [], ◌∷◌, ◌++◌, ◌<◌, ◌≤◌, ◌+◌, ◌↔◌, take, drop, length, replicate, OnOk, OnErr, IfOk, IsOk, IsTrue};
 
 use crate::fault::NoMemory;
 use std::alloc::Global;
@@ -74,6 +74,17 @@ impl Bytes {
         }
     }
 
+    /// A copy of a text; that of no bytes takes no memory.
+    pub(crate) fn of_text(alloc: Global, text: &[u8]) -> Result<Bytes, NoMemory>
+        ensures ok { IfOk result (λ b. b ≡ text.now) }
+        ensures memory { text.now ≡ [] → IsOk result }
+    {
+        if text.is_empty() {
+            return Ok(Bytes::new(alloc));
+        }
+        Bytes::copy_of(alloc, text)
+    }
+
     pub fn as_slice(&self) -> &[u8]
         ensures { result.now ≡ self.now }
     {
@@ -110,10 +121,11 @@ impl Bytes {
         }
     }
 
-    /// Appends a piece; after `NoMemory` the list is as it was.
+    /// Appends a piece; after `NoMemory` the list is as it was. An empty piece takes no memory.
     pub fn extend(&mut self, piece: &[u8]) -> Result<(), NoMemory>
         ensures ok { OnOk result (self.new ≡ self.old ++ piece.now) }
         ensures err { OnErr result (self.new ≡ self.old) }
+        ensures memory { piece.now ≡ [] → IsOk result }
     {
         match self.items.extend_from_slice(piece) {
             Ok(()) => Ok(()),
@@ -121,11 +133,10 @@ impl Bytes {
         }
     }
 
-    /// Stores a piece over the bytes from a place on.
+    /// Stores a piece over the bytes from a place on; what stands before and behind it stays.
     pub fn store(&mut self, at: usize, piece: &[u8])
         requires { at + length piece.now ≤ length self.old }
-        ensures front { take (at + length piece.now) self.new ≡ take at self.old ++ piece.now }
-        ensures len { length self.new ≡ length self.old }
+        ensures { self.new ≡ take at self.old ++ piece.now ++ drop (at + length piece.now) self.old }
     {
         let _have = self.items.len();
         let end = at + piece.len();

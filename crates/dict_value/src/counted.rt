@@ -1,54 +1,87 @@
-// A list whose only reading call counts a step.
-ghost use Rattle.std.specs.Prelude.{◌≡◌, ◌+◌, ◌<◌, ◌↔◌, [], Some, length, slice_get, IsTrue};
+// Lists that are read item by item, each reading under the counter that the list's type names.
+ghost use Rattle.std.specs.Prelude.{◌≡◌, ◌+◌, ◌-◌, ◌≤◌, ◌^◌, ◌<◌, ◌↔◌, [], Some, length, min, slice_get, IsTrue};
 
 use crate::list::ListOf;
-use std::marker::Model;
-use std::sync::ledger::{Blank, Book, Ledger, Share};
+use std::marker::{Model, PhantomData};
 
-/// How many items were read. It takes no bytes at run time, and only [`Counted::at`] raises it.
-#[derive(Drop)]
-pub struct Steps<L: Ledger> {
-    book: Book<L>,
-    share: Share<L>,
+/// What counts the readings of a list.
+pub trait Counter {
+    ghost use Rattle.std.specs.Prelude.{ℕ};
+
+    /// How many steps were counted, at most.
+    ghost amount: { Self → ℕ };
+
+    /// The counter after one step more.
+    ghost after_step: { Self → Self };
+
+    /// Counts one step more.
+    fn step(&mut self)
+        ensures is { self.new ≡ after_step self.old }
+        ensures bound { amount self.new ≤ amount self.old + 1 };
 }
 
-impl<L: Ledger> Model for Steps<L> {
-    ghost use Rattle.std.specs.Prelude.{ℕ, ◌<◌};
+/// The counter of a caller that counts nothing. It takes no bytes.
+#[derive(Drop)]
+pub struct Uncounted;
+
+impl Counter for Uncounted {
+    ghost amount = { λ _. 0 };
+
+    ghost after_step = { λ s. s };
+
+    fn step(&mut self) {}
+}
+
+/// A counter that tells its number, which stands still at its type's end.
+#[derive(Drop)]
+pub struct Tally {
+    steps: u64,
+}
+
+impl Model for Tally {
+    ghost use Rattle.std.specs.Prelude.{ℕ};
 
     ghost Value = { ℕ };
 
-    ghost view = { λ s. s.book.total };
-
-    ghost invariant = { λ s. 0 < s.share.parts };
+    ghost view = { λ t. t.steps };
 }
 
-impl<L: Ledger> Steps<L> {
-    /// No step so far, on a new ledger.
-    pub fn new(blank: Blank) -> Steps<L>
-        requires name { blank.name ≡ L.name }
-        requires parts { blank.parts ≡ L.parts }
-        requires some { 0 < blank.parts }
+impl Tally {
+    /// No step so far.
+    pub fn new() -> Tally
         ensures { result ≡ 0 }
     {
-        let (book, share) = blank.open::<L>();
-        Steps { book, share }
+        Tally { steps: 0 }
     }
 
-    /// One step more.
-    fn tick(&mut self)
-        ensures { self.new ≡ self.old + 1 }
+    /// How many steps were counted.
+    pub fn steps(&self) -> u64
+        ensures { result ≡ self.now }
     {
-        self.book.add(&mut self.share, 1);
+        self.steps
     }
 }
 
-/// A list of items that are read one by one, each for a step.
-#[derive(Drop)]
-pub struct Counted<T> {
-    items: ListOf<T>,
+impl Counter for Tally {
+    ghost use Rattle.std.specs.Prelude.{◌+◌, ◌-◌, ◌^◌, min};
+
+    ghost amount = { λ t. t };
+
+    ghost after_step = { λ t. min (t + 1) (2 ^ 64 - 1) };
+
+    fn step(&mut self) {
+        self.steps = self.steps.saturating_add(1);
+    }
 }
 
-impl<T> Model for Counted<T> {
+/// A list whose items are read one by one, each for a step of a counter of type `S`, and in no other way.
+#[derive(Drop)]
+pub struct Counted<T, S> {
+    items: ListOf<T>,
+    by: PhantomData<S>,
+}
+
+impl<T, S> Model for Counted<T, S> {
     ghost use Rattle.std.specs.Prelude.{List};
     ghost use Rattle.std.specs.Coded.{coded_list};
 
@@ -59,12 +92,15 @@ impl<T> Model for Counted<T> {
     ghost view = { λ it. it.items };
 }
 
-impl<T: Copy> Counted<T> {
+impl<T: Copy, S: Counter> Counted<T, S> {
     /// The items of a list, without a copy.
-    pub fn from_list(list: ListOf<T>) -> Counted<T>
+    pub fn from_list(list: ListOf<T>) -> Counted<T, S>
         ensures { result ≡ list }
     {
-        Counted { items: list }
+        Counted {
+            items: list,
+            by: PhantomData,
+        }
     }
 
     /// How many items there are, for no step.
@@ -81,12 +117,13 @@ impl<T: Copy> Counted<T> {
     }
 
     /// The item at a place, for one step.
-    pub fn at<L: Ledger>(&self, i: usize, steps: &mut Steps<L>) -> T
+    pub fn at(&self, i: usize, steps: &mut S) -> T
         requires { i < length self.now }
         ensures item { slice_get self.now i ≡ Some result }
-        ensures step { steps.new ≡ steps.old + 1 }
+        ensures step { steps.new ≡ S.after_step steps.old }
+        ensures bound { S.amount steps.new ≤ S.amount steps.old + 1 }
     {
-        steps.tick();
+        steps.step();
         self.items.as_slice()[i]
     }
 }

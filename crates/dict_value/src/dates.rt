@@ -2,6 +2,8 @@
 ghost use Rattle.std.specs.Prelude.{◌≡◌, ◌+◌, ◌*◌, ◌^◌, ◌-◌, ◌<◌, ◌≤◌, ◌∷◌, length, take, drop, IsTrue, if◌then◌else◌, Some, None, IfOk, pos, ◌+ℤ◌, ◌≤ℤ◌};
 ghost use Rattle.std.specs.Str.{all_ascii_digits};
 ghost use Rattle.std.specs.Str.Parse.{digits_value};
+ghost use Rattle.dict_value.specs.Letters.{space};
+ghost use Rattle.dict_value.specs.declared.dates.TheConstants.{DAY_SECONDS};
 ghost use Rattle.dict_value.specs.Dates.{civil, is_civil, has_date_form, day_in, day_of, date_of, has_clock_form, clock_in, plain_second_in, civil_second_in, second_of, from_zero_below, second_after, civil_of_day, date_text, two, clock_text, day_text, second_text};
 ghost use Rattle.dict_value.specs.Values.{as_value, HasType};
 ghost use Rattle.dict_value.specs.declared.value.ColType.{ColType};
@@ -11,6 +13,9 @@ use crate::numbers::{all_digits, short_number};
 use crate::value::{BadValue, Value};
 use jiff::civil::Date;
 use jiff_core::civil;
+
+/// How many seconds a day has.
+pub(crate) const DAY_SECONDS: u32 = 86400;
 
 /// Four digits, `-`, two digits, `-`, two digits.
 fn has_date_form(text: &[u8]) -> bool
@@ -55,7 +60,7 @@ fn date_value(day: i32) -> Result<Value, BadValue>
     ensures exact { result ≡ as_value Day (from_zero_below (2 ^ 16) day) }
     ensures fits { IfOk result (HasType ColType.Date) }
 {
-    if day < 0 || day > 65535 {
+    if day < 0 || day > i32::from(u16::MAX) {
         return Err(BadValue::OutOfRange);
     }
     Ok(Value::Day(day as u16))
@@ -115,7 +120,9 @@ fn second_at(day: Option<i32>, clock: Option<u32>) -> Option<i64>
     ensures { result ≡ second_after day clock }
 {
     match (day, clock) {
-        (Some(day), Some(clock)) => Some(i64::from(day) * 86400 + i64::from(clock)),
+        (Some(day), Some(clock)) => Some(
+            i64::from(day) * i64::from(DAY_SECONDS) + i64::from(clock),
+        ),
         _ => None,
     }
 }
@@ -135,7 +142,7 @@ fn second_value(second: i64) -> Result<Value, BadValue>
     ensures exact { result ≡ as_value Second (from_zero_below (2 ^ 32) second) }
     ensures fits { IfOk result (HasType ColType.DateTime) }
 {
-    if second < 0 || second > 4294967295 {
+    if second < 0 || second > i64::from(u32::MAX) {
         return Err(BadValue::OutOfRange);
     }
     Ok(Value::Second(second as u32))
@@ -200,8 +207,8 @@ fn date_text(year: u16, month: u8, day: u8) -> [u8; 10]
 
 /// The text of a second of a day, behind a space.
 pub(crate) fn clock_text(second: u32) -> [u8; 9]
-    requires { second < 86400 }
-    ensures { result ≡ 32 ∷ clock_text second }
+    requires { second < DAY_SECONDS }
+    ensures { result ≡ space ∷ clock_text second }
 {
     let hour = (second / 3600) as u8;
     let minute = (second / 60 % 60) as u8;

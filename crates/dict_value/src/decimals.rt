@@ -5,12 +5,16 @@ ghost use Rattle.std.specs.Option.{option_map};
 ghost use Rattle.std.specs.Str.{all_ascii_digits};
 ghost use Rattle.std.specs.Str.Parse.{digits_value};
 ghost use Rattle.dict_value.specs.Decimals.{before_byte, from_byte, places, scaled_in, decimal_of};
+ghost use Rattle.dict_value.specs.declared.decimals.TheConstants.{DECIMAL_DIGITS};
 ghost use Rattle.dict_value.specs.Values.{as_value, HasType};
 ghost use Rattle.dict_value.specs.declared.value.ColType.{ColType};
 ghost use Rattle.dict_value.specs.declared.value.Value.TheVariants.{Dec};
 
 use crate::numbers::{is_numeral, number_of, split_sign, with_digit, with_sign};
 use crate::value::{BadValue, Value};
+
+/// The greatest number of digits of a Decimal.
+const DECIMAL_DIGITS: u8 = 38;
 
 /// The place of the first such byte, or the length where there is none.
 fn place_of(byte: u8, text: &[u8]) -> usize
@@ -73,12 +77,12 @@ fn scaled_of(text: &[u8], scale: u8) -> Option<u128>
     Some(with_places(whole, fraction, scale))
 }
 
-/// The bound of the numbers of so many digits, of which a Decimal has at most 38.
+/// The bound of the numbers of so many digits, of which a Decimal has at most [`DECIMAL_DIGITS`].
 fn bound_of(digits: u8) -> u128
-    ensures value { result ≡ 10 ^ min digits 38 }
-    ensures bound { result ≤ 10 ^ 38 }
+    ensures value { result ≡ 10 ^ min digits DECIMAL_DIGITS }
+    ensures bound { result ≤ 10 ^ DECIMAL_DIGITS }
 {
-    10u128.pow(u32::from(digits.min(38)))
+    10u128.pow(u32::from(digits.min(DECIMAL_DIGITS)))
 }
 
 /// A Decimal with so many digits, and so many of them behind the point.

@@ -3,11 +3,15 @@ ghost use Rattle.std.specs.Prelude.{◌≡◌, MatchOption};
 ghost use Rattle.std.specs.Str.Parse.{digits_value};
 ghost use Rattle.dict_value.specs.Digits.{IsDigits};
 
+/// The greatest number of digits that are read: those of 18446744073709551615.
+const U64_DIGITS: usize = 20;
+
 /// The number that one to twenty decimal digits write, where it is at most 18446744073709551615.
 pub fn read_digits(text: &[u8]) -> Option<u64>
-    ensures { MatchOption result (IsDigits text.now → ⊥) (λ n. IsDigits text.now × (n ≡ digits_value 10 text.now)) }
+    ensures { MatchOption result (¬ (IsDigits text.now))
+        (λ n. IsDigits text.now × (n ≡ digits_value 10 text.now)) }
 {
-    if text.is_empty() || text.len() > 20 {
+    if text.is_empty() || text.len() > U64_DIGITS {
         return None;
     }
     let mut number: u64 = 0;

@@ -8,32 +8,53 @@
 #![tactic(auto)]
 
 mod addresses;
+#[cfg(test)]
+mod addresses_tests;
 pub mod bytes;
+#[cfg(test)]
+mod bytes_tests;
 mod counted;
+#[cfg(test)]
+mod counted_tests;
 mod dates;
+#[cfg(test)]
+mod dates_tests;
 mod decimals;
+#[cfg(test)]
+mod decimals_tests;
 pub mod digit_text;
 pub mod fault;
 mod identifiers;
-pub mod list;
-mod numbers;
-mod reading;
-pub mod split;
 #[cfg(test)]
-mod tests;
+mod identifiers_tests;
+mod laws;
+pub mod list;
+mod number_texts;
+mod numbers;
+#[cfg(test)]
+mod numbers_tests;
+mod reading;
+#[cfg(test)]
+mod seen;
+pub mod split;
 pub mod value;
+#[cfg(test)]
+mod value_tests;
 mod writing;
 
-pub use addresses::{addresses_by_grammar, read_address, read_prefix};
+pub use addresses::{read_address, read_prefix};
 pub use bytes::Bytes;
-pub use counted::{Counted, Steps};
+pub use counted::{Counted, Counter, Tally, Uncounted};
 pub use digit_text::read_digits;
 pub use fault::{BadRow, BlockFault, CallFault, Cause, Exit, FetchFault, LineFault, NoMemory, Why};
+pub use laws::{
+    addresses_by_grammar, each_field_is_read, one_place_is_found, read_is_typed, written_is_read,
+};
 pub use list::ListOf;
-pub use reading::{default_of, read_is_typed, read_text, read_value, written_is_read};
+pub use reading::{default_of, read_text, read_value};
 pub use split::split_at_byte;
 pub use value::{
     Address, AttrType, BadValue, ColType, Fetched, FetchedRow, Field, Fields, Format, KeyList,
-    MaybeRow, Prefix, Row, Rows, Value, copy_value, same_value,
+    MOST_ROWS, MaybeRow, Prefix, Row, Rows, Value, copy_value, same_value,
 };
 pub use writing::write_value;

@@ -90,7 +90,8 @@ impl<T: Drop> ListOf<T> {
 
     /// Takes the first item away, in time that grows with the list.
     pub fn pop_front(&mut self) -> Option<T>
-        ensures { MatchOption result ((self.old ≡ []) × (self.new ≡ [])) (λ item. self.old ≡ item ∷ self.new) }
+        ensures { MatchOption result ((self.old ≡ []) × (self.new ≡ []))
+            (λ item. self.old ≡ item ∷ self.new) }
     {
         if self.items.is_empty() {
             None

@@ -1,9 +1,8 @@
 // A value from a field, and the value that stands where none is given.
-ghost use Rattle.std.specs.Prelude.{◌≡◌, ℕ, List, IfOk, Ok};
-ghost use Rattle.dict_value.specs.Values.{text_reading, Gives, GivesText, default_of_column, FitsColumn, HasType, text_of};
-ghost use Rattle.dict_value.specs.declared.value.ColType.{ColType};
-ghost use Rattle.dict_value.specs.declared.value.Value.{Value};
-ghost use Rattle.dict_value.specs.declared.value.Value.TheVariants.{S};
+ghost use Rattle.std.specs.Prelude.{◌≡◌, IfOk, Err};
+ghost use Rattle.dict_value.specs.Memory.{UnlessNoMemory};
+ghost use Rattle.dict_value.specs.Values.{FitsColumn, HasType, IsStringField, IsStringText, default_of_column, reading, text_reading};
+ghost use Rattle.dict_value.specs.declared.value.BadValue.TheVariants as fault;
 
 use crate::addresses::{read_v4, read_v6};
 use crate::bytes::Bytes;
@@ -14,10 +13,11 @@ use crate::numbers::{read_signed, read_unsigned};
 use crate::value::{AttrType, BadValue, ColType, Field, Value};
 use std::alloc::Global;
 
-/// The value of a field; only a String takes memory.
+/// The value of a field; only a String that isn't empty takes memory.
+#[tactic(auto, using(crate::proofs::Readings::reading_has_memory))]
 pub fn read_value(alloc: Global, t: &AttrType, field: &Field) -> Result<Value, BadValue>
-    // The reading or its fault, unless no memory was found for a String.
-    ensures exact { Gives t.now field.now result }
+    ensures exact { UnlessNoMemory (Err fault.NoMemory) result (result ≡ reading t.now field.now) }
+    ensures memory { result ≡ Err fault.NoMemory → IsStringField t.now field.now }
     ensures fits { IfOk result (FitsColumn t.now) }
 {
     match field {
@@ -27,11 +27,11 @@ pub fn read_value(alloc: Global, t: &AttrType, field: &Field) -> Result<Value, B
     }
 }
 
-/// The value that a text has at a type; only a String takes memory.
-#[tactic(auto, unfolding(crate::specs::Values::text_reading))]
+/// The value that a text has at a type; only a String that isn't empty takes memory.
+#[tactic(auto, using(crate::proofs::Readings::text_has_memory), unfolding(crate::specs::Values::text_reading))]
 pub fn read_text(alloc: Global, base: ColType, text: &[u8]) -> Result<Value, BadValue>
-    // The reading or its fault, unless no memory was found for a String.
-    ensures exact { GivesText base text.now result }
+    ensures exact { UnlessNoMemory (Err fault.NoMemory) result (result ≡ text_reading base text.now) }
+    ensures memory { result ≡ Err fault.NoMemory → IsStringText base text.now }
     ensures fits { IfOk result (HasType base) }
 {
     match base {
@@ -43,7 +43,7 @@ pub fn read_text(alloc: Global, base: ColType, text: &[u8]) -> Result<Value, Bad
         ColType::Int16 => read_signed(text, 0x7fff),
         ColType::Int32 => read_signed(text, 0x7fff_ffff),
         ColType::Int64 => read_signed(text, 0x7fff_ffff_ffff_ffff),
-        ColType::Str => match Bytes::copy_of(alloc, text) {
+        ColType::Str => match Bytes::of_text(alloc, text) {
             Ok(bytes) => Ok(Value::S(bytes)),
             Err(_) => Err(BadValue::NoMemory),
         },
@@ -55,16 +55,6 @@ pub fn read_text(alloc: Global, base: ColType, text: &[u8]) -> Result<Value, Bad
         ColType::Decimal(digits, scale) => read_decimal(text, digits, scale),
     }
 }
-
-/// What is written of a value is read as that value, for every value of every type.
-pub fn written_is_read()
-    ensures { (t : ColType) (v : Value) → HasType t v → text_reading t (text_of t v) ≡ Ok v }
-{}
-
-/// What a text is read as is a value of the type, for every text and type.
-pub fn read_is_typed()
-    ensures { (t : ColType) (text : List ℕ) (v : Value) → text_reading t text ≡ Ok v → HasType t v }
-{}
 
 /// What stands where no value is given: Null where it is allowed, and else 0 or the empty string.
 pub fn default_of(alloc: Global, t: &AttrType) -> Value

@@ -1,5 +1,6 @@
 // Types, values, fields and rows, as plain data.
-ghost use Rattle.std.specs.Prelude.{◌≡◌, ◌↔◌, IfOk, IsTrue};
+ghost use Rattle.std.specs.Prelude.{◌≡◌, ◌↔◌, IfOk, IsTrue, OnErr};
+ghost use Rattle.dict_value.specs.Values.{IsStringValue};
 
 use crate::bytes::Bytes;
 use crate::fault::NoMemory;
@@ -71,15 +72,16 @@ pub fn same_value(a: &Value, b: &Value) -> bool
     }
 }
 
-/// The same value once more; only a String takes memory.
+/// The same value once more; only a String that isn't empty takes memory.
 pub fn copy_value(alloc: Global, value: &Value) -> Result<Value, NoMemory>
-    ensures { IfOk result (λ copy. copy ≡ value.now) }
+    ensures ok { IfOk result (λ copy. copy ≡ value.now) }
+    ensures memory { OnErr result (IsStringValue value.now) }
 {
     Ok(match value {
         Value::Null => Value::Null,
         Value::U(n) => Value::U(*n),
         Value::I(n) => Value::I(*n),
-        Value::S(text) => Value::S(Bytes::copy_of(alloc, text.as_slice())?),
+        Value::S(text) => Value::S(Bytes::of_text(alloc, text.as_slice())?),
         Value::Day(n) => Value::Day(*n),
         Value::Second(n) => Value::Second(*n),
         Value::Id(n) => Value::Id(*n),
@@ -130,6 +132,9 @@ pub enum Address {
     V4(u32),
     V6(u128),
 }
+
+/// The greatest number of rows of a version.
+pub const MOST_ROWS: usize = 4_194_304;
 
 pub type Row = ListOf<Value>;
 

@@ -1,37 +1,25 @@
 // The one text of a value.
-ghost use Rattle.std.specs.Prelude.{◌≡◌, ◌≢◌, ◌++◌, ◌≤◌, length, take, OnOk, OnErr, IfSome, Ok, ◌/◌, ◌^◌};
-ghost use Rattle.dict_value.specs.Values.{HasType, FitsColumn, text_of, text_reading, scale_of};
+ghost use Rattle.std.specs.Prelude.{◌≡◌, ◌≢◌, ◌++◌, ◌≤◌, [], length, take, IsOk, OnOk, OnErr, Ok, ◌/◌, ◌^◌};
+ghost use Rattle.dict_value.specs.Values.{HasType, FitsColumn, value_text, text_reading, scale_of};
 ghost use Rattle.dict_value.specs.Decimals.{decimal_text, last_digits, without_end_zeros, fraction_text};
 ghost use Rattle.dict_value.specs.Dates.{second_text};
-ghost use Rattle.dict_value.specs.declared.value.Value.TheVariants.{Null};
+ghost use Rattle.dict_value.specs.declared.value.Value.TheVariants.{Null, S};
 
 use crate::bytes::Bytes;
-use crate::dates::{clock_text, day_text};
+use crate::dates::{DAY_SECONDS, clock_text, day_text};
 use crate::fault::NoMemory;
 use crate::identifiers::push_id;
+use crate::number_texts::{push_number, push_v4, push_v6};
 use crate::value::{AttrType, ColType, Value};
-use std::fmt::{Display, InlineText, Write};
 use std::net::{Ipv4Addr, Ipv6Addr};
-
-/// Appends what a value shows.
-fn push_shown<D: Display + Drop>(out: &mut Bytes, shown: D) -> Result<(), NoMemory>
-    ensures ok { OnOk result (IfSome (D.output shown) (λ text. out.new ≡ out.old ++ text)) }
-    ensures err { OnErr result (out.new ≡ out.old) }
-{
-    let mut text = InlineText::<48>::new();
-    match text.write(shown) {
-        Ok(()) => out.extend(text.as_str().as_bytes()),
-        Err(_) => Err(NoMemory),
-    }
-}
 
 /// Appends the text of a second; after `NoMemory` the front is as it was.
 fn push_second(out: &mut Bytes, second: u32) -> Result<(), NoMemory>
     ensures ok { OnOk result (out.new ≡ out.old ++ second_text second) }
     ensures err { OnErr result (take (length out.old) out.new ≡ out.old) }
 {
-    out.extend(&day_text((second / 86400) as u16))?;
-    out.extend(&clock_text(second % 86400))
+    out.extend(&day_text((second / DAY_SECONDS) as u16))?;
+    out.extend(&clock_text(second % DAY_SECONDS))
 }
 
 /// Fills the room with the last digits of a number, and answers what stands before them.
@@ -70,7 +58,7 @@ fn push_decimal(out: &mut Bytes, scale: u8, z: i128) -> Result<(), NoMemory>
     if z < 0 {
         out.push(b'-')?;
     }
-    push_shown(out, whole)?;
+    push_number(out, whole)?;
     if fraction.is_empty() {
         return Ok(());
     }
@@ -79,22 +67,23 @@ fn push_decimal(out: &mut Bytes, scale: u8, z: i128) -> Result<(), NoMemory>
 }
 
 /// Appends the text of a value; after `NoMemory` the front is as it was.
-#[tactic(auto, unfolding(crate::specs::Values::text_of))]
+#[tactic(auto, unfolding(crate::specs::Values::value_text))]
 fn push_text(t: ColType, v: &Value, out: &mut Bytes) -> Result<(), NoMemory>
     requires { HasType t v.now }
-    ensures ok { OnOk result (out.new ≡ out.old ++ text_of t v.now) }
+    ensures ok { OnOk result (out.new ≡ out.old ++ value_text t v.now) }
     ensures err { OnErr result (take (length out.old) out.new ≡ out.old) }
+    ensures memory { v.now ≡ S [] → IsOk result }
 {
     match v {
         Value::Null => Ok(()),
-        Value::U(n) => push_shown(out, *n),
-        Value::I(z) => push_shown(out, *z),
+        Value::U(n) => push_number(out, *n),
+        Value::I(z) => push_number(out, *z),
         Value::S(text) => out.extend(text.as_slice()),
         Value::Day(day) => out.extend(&day_text(*day)),
         Value::Second(second) => push_second(out, *second),
         Value::Id(id) => push_id(out, *id),
-        Value::V4(bits) => push_shown(out, Ipv4Addr::from_bits(*bits)),
-        Value::V6(bits) => push_shown(out, Ipv6Addr::from_bits(*bits)),
+        Value::V4(bits) => push_v4(out, &Ipv4Addr::from_bits(*bits)),
+        Value::V6(bits) => push_v6(out, &Ipv6Addr::from_bits(*bits)),
         Value::Dec(z) => push_decimal(out, scale_of(t), *z),
     }
 }
@@ -112,10 +101,12 @@ fn scale_of(t: ColType) -> u8
 pub fn write_value(t: &AttrType, v: &Value, out: &mut Bytes) -> Result<(), NoMemory>
     requires fits { FitsColumn t.now v.now }
     requires some { v.now ≢ Null }
-    ensures ok { OnOk result (out.new ≡ out.old ++ text_of t.now.base v.now) }
+    ensures ok { OnOk result (out.new ≡ out.old ++ value_text t.now.base v.now) }
     ensures err { OnErr result (out.new ≡ out.old) }
+    // The empty string takes no memory.
+    ensures memory { v.now ≡ S [] → IsOk result }
     // What is written is read as the value again.
-    ensures again { text_reading t.now.base (text_of t.now.base v.now) ≡ Ok v.now }
+    ensures again { text_reading t.now.base (value_text t.now.base v.now) ≡ Ok v.now }
 {
     let before = out.len();
     let written = push_text(t.base, v, out);

@@ -1,6 +1,6 @@
 -- Each type reads values of its own.
 use Rattle.dict_value.proofs.ReadTypes.{read-typed}
-use Rattle.dict_value.proofs.reading.read_is_typed.Goals as goal
+use Rattle.dict_value.proofs.laws.read_is_typed.Goals as goal
 
 pub returns : goal.returns
 returns c = read-typed
