@@ -18,7 +18,7 @@ use Rattle.row_text.specs.Decoding.{AreTypedRows, Reader, Decodes, FillsColumns,
 use Rattle.row_text.specs.steps.CutSteps.{BeginsWithLine}
 use Rattle.row_text.specs.steps.DecodeSteps.{AddsLine, LineBrings, LineDecodes, TakeAll, fault_at, row_fault}
 use Rattle.dict_value.specs.Memory.{UnlessNoMemory}
-use Rattle.row_text.specs.declared.decode.TheConstants.{MOST_ROWS}
+use Rattle.dict_value.specs.declared.value.TheConstants.{MOST_ROWS}
 use Rattle.row_text.specs.declared.decode.DecodeFault.{DecodeFault}
 use Rattle.row_text.specs.declared.decode.DecodeFault.TheVariants as decode
 use Rattle.row_text.specs.declared.decode.RowFault.{RowFault}

@@ -1,7 +1,6 @@
 -- Each line has an answer, each text has lines, and each decodes to something.
-use Rattle.std.proofs.Common.{◌≡◌, ◌≤◌, ◌<◌, ◌+◌, ◌∷◌, ◌++◌, ◌∙◌, ◌⊎◌, [], ℕ, zero, suc, List, length, map, take, drop, Option, Some, None, refl, sym, ap, subst, inl, inr, arith, append_assoc, true, false, Result, Ok, Err}
+use Rattle.std.proofs.Common.{◌≡◌, ◌≤◌, ◌<◌, ◌+◌, ◌∷◌, ◌++◌, ◌⊎◌, [], ℕ, zero, suc, List, length, map, Option, Some, None, refl, sym, ap, subst, inl, inr, arith, append_assoc, true, Result, Ok, Err}
 use Rattle.std.specs.Prelude.{◌&&◌, is_some}
-use Rattle.std.specs.List.{flat_map}
 use Rattle.std.proofs.lemmas.List.{append-nil, length-append}
 use Rattle.std.proofs.lemmas.Bool.{and_parts, cases_Bool, cases_eq}
 use Rattle.csv.specs.Machine.{Read, next_record}
@@ -20,9 +19,9 @@ use Rattle.dict_value.specs.declared.value.Value.{Value}
 use Rattle.row_text.specs.declared.cutter.CutRule.{CutRule}
 use Rattle.row_text.specs.declared.decode.DecodeFault.{DecodeFault}
 use Rattle.row_text.specs.declared.decode.DecodeFault.TheVariants as decode
-use Rattle.row_text.specs.declared.decode.TheConstants.{MOST_ROWS}
+use Rattle.dict_value.specs.declared.value.TheConstants.{MOST_ROWS}
 use Rattle.row_text.specs.declared.letters.TheConstants.{BACKSLASH, LETTER_X}
-use Rattle.row_text.specs.Marks.{Mark, bare, escaped, hex, IsBadEscape, IsMark, Spells, begins_with_digits, hex_digit, spelled}
+use Rattle.row_text.specs.Marks.{Mark, bare, escaped, hex, IsBadEscape, IsMark, Spells, hex_digit, spelled}
 use Rattle.row_text.specs.TabRow.{HasBadEscape, TabAnswers, ends_in_return, fields_of}
 use Rattle.row_text.specs.CsvRow.{CsvAnswers}
 use Rattle.row_text.specs.Tables.{AreLines}

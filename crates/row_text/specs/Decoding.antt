@@ -19,7 +19,7 @@ use Rattle.row_text.specs.declared.cutter.CutRule.{CutRule}
 use Rattle.row_text.specs.declared.cutter.CutRule.TheVariants as rule
 use Rattle.row_text.specs.declared.decode.DecodeFault.{DecodeFault}
 use Rattle.row_text.specs.declared.decode.DecodeFault.TheVariants as decode
-use Rattle.row_text.specs.declared.decode.TheConstants.{MOST_ROWS}
+use Rattle.dict_value.specs.declared.value.TheConstants.{MOST_ROWS}
 use Rattle.row_text.specs.CsvRow.{CsvAnswers, is_blank_line}
 use Rattle.row_text.specs.TabRow.{TabAnswers}
 use Rattle.row_text.specs.Tables.{AreLines}
@@ -28,8 +28,8 @@ use Rattle.row_text.specs.Tables.{AreLines}
 abbrev pub Reader : Type 0
 Reader = Field → Result Value BadValue
 
--- The column makes this of the field. Want of memory may stand only in place of a String that isn't empty, the one value
--- that takes memory.
+-- The column makes this of the field. Want of memory may stand only in place of a String that isn't empty, the one
+-- value that takes memory.
 abbrev pub Reads : Reader → Field → Result Value BadValue → Type 0
 Reads column field (Err value.NoMemory) = (Err value.NoMemory ≡ column field) ⊎ IsOkAnd (column field) IsStringValue
 Reads column field made = made ≡ column field
@@ -97,8 +97,8 @@ pub record HasRows (format : Format) (columns : List Reader) (text : List ℕ) (
   pub few : length rows ≤ MOST_ROWS
 
 -- this line of the text isn't blank, and the lines before it are these typed rows
-pub record StandsBehind (format : Format) (columns : List Reader) (text : List ℕ) (rows : List (List Value)) (line : List ℕ)
-    : Type 0 where
+pub record StandsBehind
+    (format : Format) (columns : List Reader) (text : List ℕ) (rows : List (List Value)) (line : List ℕ) : Type 0 where
   pub before : List (List ℕ)
   pub after : List (List ℕ)
   pub cut : AreLines (rule_of format) text (before ++ line ∷ after)

@@ -9,12 +9,9 @@ use crate::csv_row::{is_blank_line, read_csv_row};
 use crate::cutter::{CutRule, first_line};
 use crate::tab_row::read_fields;
 use dict_value::{
-    BadRow, BadValue, Field, Fields, Format, LineFault, ListOf, Row, Rows, Value, Why,
+    BadRow, BadValue, Field, Fields, Format, LineFault, ListOf, MOST_ROWS, Row, Rows, Value, Why,
 };
 use std::alloc::Global;
-
-/// The greatest number of rows of a version.
-pub const MOST_ROWS: usize = 4_194_304;
 
 /// Why a text has no rows.
 #[derive(Clone, Copy, Debug, PartialEq, Eq)]
@@ -53,7 +50,8 @@ pub fn decode_rows<C: Columns>(
 ) -> Result<Rows, DecodeFault>
     requires bytes { length text.now ≤ u32.MAX }
     requires columns { length (C.columns columns.now) ≤ u32.MAX }
-    ensures { UnlessNoMemory (Err DecodeFault.NoMemory) result (Decodes format (C.columns columns.now) text.now result) }
+    ensures { UnlessNoMemory (Err DecodeFault.NoMemory) result
+        (Decodes format (C.columns columns.now) text.now result) }
 {
     let rule = rule_for(format);
     let mut rows = ListOf::new(alloc);

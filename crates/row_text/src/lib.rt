@@ -18,7 +18,7 @@ pub mod tab_row;
 
 pub use csv_row::{is_blank_line, read_csv_row, write_csv_row};
 pub use cutter::{Cut, CutRule, CutText, Cutter, rows_of_pieces};
-pub use decode::{Columns, DecodeFault, MOST_ROWS, decode_rows};
+pub use decode::{Columns, DecodeFault, decode_rows};
 pub use laws::{one_decoding, one_list_of_lines, one_reading, one_table, written_tables};
 pub use tab_row::{read_fields, write_row, write_text};
 

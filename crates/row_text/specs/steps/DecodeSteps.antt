@@ -13,7 +13,7 @@ use Rattle.row_text.specs.declared.decode.DecodeFault.{DecodeFault}
 use Rattle.row_text.specs.declared.decode.DecodeFault.TheVariants as decode
 use Rattle.row_text.specs.declared.decode.RowFault.{RowFault}
 use Rattle.row_text.specs.declared.decode.RowFault.TheVariants as no_row
-use Rattle.row_text.specs.declared.decode.TheConstants.{MOST_ROWS}
+use Rattle.dict_value.specs.declared.value.TheConstants.{MOST_ROWS}
 use Rattle.row_text.specs.Decoding.{IsBadLine, IsTypedRow, Reader, is_row_line, readings}
 
 -- the first fault of the columns from the left, and its column

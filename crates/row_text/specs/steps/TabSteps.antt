@@ -1,5 +1,5 @@
 -- What the steps of reading a TabSeparated row find.
-use Rattle.std.specs.Prelude.{◌≡◌, ◌≢◌, ◌≤◌, ◌<◌, ◌+◌, ◌∷◌, ◌++◌, [], slice_index, true, false, ℕ}
+use Rattle.std.specs.Prelude.{◌≡◌, ◌≢◌, ◌≤◌, ◌<◌, ◌+◌, ◌∷◌, ◌++◌, [], slice_index, false, ℕ}
 use Rattle.std.specs.Prelude.{List, length, take, drop, Option, Some, None, Result, Ok, Err}
 use Rattle.std.specs.List.{AllByRecursion}
 use Rattle.dict_value.specs.declared.value.Field.{Field}

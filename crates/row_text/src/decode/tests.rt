@@ -1,5 +1,5 @@
-use crate::{Columns, DecodeFault, MOST_ROWS, decode_rows};
-use dict_value::{BadRow, BadValue, Bytes, Field, Format, Value, Why};
+use crate::{Columns, DecodeFault, decode_rows};
+use dict_value::{BadRow, BadValue, Bytes, Field, Format, MOST_ROWS, Value, Why};
 use std::alloc::Global;
 use std::test::Fail;
 

@@ -1,7 +1,6 @@
 use crate::{DecodeFault, decode, decoded_rows_fit};
 use dict_schema::{Role, Shape, ShapeColumn};
-use dict_value::{AttrType, Bytes, ColType, Format, ListOf, NoMemory, Rows, Value};
-use row_text::MOST_ROWS;
+use dict_value::{AttrType, Bytes, ColType, Format, ListOf, MOST_ROWS, NoMemory, Row, Rows, Value};
 use std::alloc::Global;
 use std::test::Fail;
 
@@ -243,6 +242,16 @@ fn lines(alloc: Global, line: &[u8], count: usize) -> Result<Bytes, NoMemory> {
     Ok(text)
 }
 
+/// The row has the greatest number and ten letters.
+fn is_pair(row: &Row) -> bool {
+    match row.as_slice() {
+        [Value::U(id), Value::S(text)] => {
+            *id == u64::MAX && text.as_slice() == b"abcdefghij".as_slice()
+        }
+        _ => false,
+    }
+}
+
 #[test]
 fn a_million_rows(rt: HostRuntime) -> Result<(), Fail> {
     let cases: [(Format, &[u8]); 2] = [
@@ -255,12 +264,7 @@ fn a_million_rows(rt: HostRuntime) -> Result<(), Fail> {
             return Err(Fail::from("there is memory for a million rows"));
         };
         assert_eq!(rt; rows.len(), 1_000_000);
-        for row in rows.as_slice() {
-            let [Value::U(id), Value::S(text)] = row.as_slice() else {
-                return Err(Fail::from("each row has a number and a text"));
-            };
-            assert!(rt; *id == u64::MAX && text.as_slice() == b"abcdefghij");
-        }
+        assert!(rt; rows.as_slice().iter().all(|row| is_pair(row)));
     }
     Ok(())
 }

@@ -16,7 +16,7 @@ loop-text-preserved c =
     let lt : c.loop-text.at < length texts = there texts c.loop-text.at c.in-Some.text.now c.in-Some.ensures.value in (
       omega arith,
       c.in_ok-push.ensures.ok ∙ ap (λ (fs : List Field). fs ++ field.Text c.in_ok-text.text ∷ []) c.loop-text.invariant.1
-          ∙ ap (λ (t : List ℕ). map field.Text (take c.loop-text.at texts) ++ field.Text t ∷ []) c.in_ok-text.ensures.ok
+          ∙ ap (λ (t : List ℕ). map field.Text (take c.loop-text.at texts) ++ field.Text t ∷ []) c.in_ok-text.ensures
           ∙ sym (more-fields texts c.loop-text.at c.in-Some.text.now c.in-Some.ensures.value),
     )
 

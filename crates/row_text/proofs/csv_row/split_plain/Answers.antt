@@ -18,7 +18,7 @@ pub returns-then-run-left-2 : goal.returns-then-run-left-2
 returns-then-run-left-2 c =
     let left = suffix c.args.line.now c.fields.at in
     let run = c.plain_len-run.result in
-    let pushed : c.push.new.self ≡ c.fields.fields ++ field.Text (take run left) ∷ [] = c.in_ok-push.ensures.ok ∙ ap (λ (t : List ℕ). c.fields.fields ++ field.Text t ∷ []) c.in_ok-text.ensures.ok in
+    let pushed : c.push.new.self ≡ c.fields.fields ++ field.Text (take run left) ∷ [] = c.in_ok-push.ensures.ok ∙ ap (λ (t : List ℕ). c.fields.fields ++ field.Text t ∷ []) c.in_ok-text.ensures in
     subst (IsCsvRow c.args.line.now) (sym pushed)
     (split-last c.args.line.now c.fields.at run c.fields.fields c.fields.invariant.0 c.fields.invariant.1 c.if-run-left-2.true c.if-line.false c.plain_len-run.ensures.plain)
 
@@ -27,7 +27,7 @@ fields-preserved c =
     let left = suffix c.args.line.now c.fields.at in
     let run = c.plain_len-run.result in
     let lt : run < length left = omega (arith, c.plain_len-run.ensures.within, c.if-run-left-2.false) in
-    let pushed : c.push.new.self ≡ c.fields.fields ++ field.Text (take run left) ∷ [] = c.in_ok-push.ensures.ok ∙ ap (λ (t : List ℕ). c.fields.fields ++ field.Text t ∷ []) c.in_ok-text.ensures.ok in
+    let pushed : c.push.new.self ≡ c.fields.fields ++ field.Text (take run left) ∷ [] = c.in_ok-push.ensures.ok ∙ ap (λ (t : List ℕ). c.fields.fields ++ field.Text t ∷ []) c.in_ok-text.ensures in
     let here : get_or left run 0 ≡ COMMA = elim c.else-run-left.branch [
       | else-run-left-via-then-run-left+else-left-run-ne-COMMA w ↦ w.if-left-run-ne-COMMA.false
       | else-run-left-via-else-run-left w ↦ absurd (omega (arith, lt, w.if-run-left.false))

@@ -14,7 +14,7 @@ loop-count-preserved c rule held =
     let left = c.loop-count.left.now in
     let count = c.in-Row.count in
     let row = c.loop-count.row ++ fed.0 in
-    let whole : c.in_ok-whole.whole ≡ row = c.in_ok-whole.ensures.ok ∙ c.as_slice.ensures ∙ c.in_ok-extend.ensures.ok ∙ ap (λ (t : List ℕ). c.loop-count.row ++ t) (front-of left fed.0 fed.1 count fed.2 fed.3) in (
+    let whole : c.in_ok-whole.whole ≡ row = c.in_ok-whole.ensures ∙ c.as_slice.ensures ∙ c.in_ok-extend.ensures.ok ∙ ap (λ (t : List ℕ). c.loop-count.row ++ t) (front-of left fed.0 fed.1 count fed.2 fed.3) in (
       rw c.clear.ensures feeds.1,
       (
         rows ++ row ∷ [],

@@ -1,5 +1,5 @@
 use Rattle.std.proofs.Common.{◌≤◌, ◌+◌, length}
-use Rattle.row_text.specs.declared.decode.TheConstants.{MOST_ROWS}
+use Rattle.dict_value.specs.declared.value.TheConstants.{MOST_ROWS}
 use Rattle.row_text.proofs.Decoded.{Done}
 use Rattle.row_text.proofs.decode.decode_rows.Given as goal
 

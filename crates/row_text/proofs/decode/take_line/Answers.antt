@@ -1,6 +1,6 @@
 use Rattle.std.proofs.Common.{◌≡◌, ◌<◌, Err, length, true, subst, sym, rules}
 use Rattle.row_text.specs.declared.decode.DecodeFault.{DecodeFault}
-use Rattle.row_text.specs.declared.decode.TheConstants.{MOST_ROWS}
+use Rattle.dict_value.specs.declared.value.TheConstants.{MOST_ROWS}
 use Rattle.row_text.specs.Decoding.{is_row_line}
 use Rattle.row_text.specs.steps.DecodeSteps.{LineBrings}
 use Rattle.row_text.proofs.Decoded.{line-fault}
