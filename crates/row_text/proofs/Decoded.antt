@@ -24,6 +24,7 @@ use Rattle.row_text.specs.declared.decode.DecodeFault.TheVariants as decode
 use Rattle.row_text.specs.declared.decode.RowFault.{RowFault}
 use Rattle.row_text.specs.declared.decode.RowFault.TheVariants as row
 use Rattle.row_text.proofs.CutSteps.{open-nil, open-push}
+use Rattle.row_text.proofs.Readings as of_row
 use Rattle.row_text.proofs.Tabled.{one-lines}
 
 -- no text, no line
@@ -137,19 +138,22 @@ done-all format columns text left number rows none d =
     (d.lines, subst (AreLines (rule_of format) text) (append-nil d.lines) (d.onward [] (subst (λ (t : List ℕ). AreLines (rule_of format) t []) (sym none) (lines-nil (rule_of format)))), d.typed)
 
 -- this holds, unless the answer is want of memory
-abbrev Unless : {A : Type 0} → Result A DecodeFault → Type 0 → Type 0
+abbrev pub Unless : {A : Type 0} → Result A DecodeFault → Type 0 → Type 0
 Unless answer P = UnlessNoMemory (Err decode.NoMemory) answer P
 
 -- the fault of the next line is that of the text
 pub done-fault : (format : Format) (columns : List Reader) (text left line rest : List ℕ) (number : ℕ) (rows new : List (List Value)) → left ≢ [] → BeginsWithLine (rule_of format) left line rest
-    → Done format columns text left number rows → (fault : DecodeFault) → LineBrings format columns line (number + 1) rows (Err fault) new
+    → Done format columns text left number rows → (fault : DecodeFault)
+    → Unless {A = Unit {0}} (Err fault) (LineBrings format columns line (number + 1) rows (Err fault) new)
     → Unless {A = List (List Value)} (Err fault) (Decodes format columns text (Err fault))
-done-fault format columns text left line rest number rows new some begins d (decode.Bad bad) (is, room, at, reason) = λ _.
-    let behind = done-behind format columns text left line rest number rows some begins d is in
-    record { rows = rows; line = line; stands = behind.0; room = room; numbered = at ∙ behind.1; reason = reason }
-done-fault format columns text left line rest number rows new some begins d decode.TooMany (is, full) = λ _.
-    record { rows = rows; line = line; stands = (done-behind format columns text left line rest number rows some begins d is).0; full = full }
-done-fault format columns text left line rest number rows new some begins d decode.NoMemory found = λ told. absurd (told refl)
+done-fault format columns text left line rest number rows new some begins d (decode.Bad bad) told _ =
+    let found = told (λ e. cc) in
+    let behind = done-behind format columns text left line rest number rows some begins d found.0 in
+    record { rows = rows; line = line; stands = behind.0; room = found.1; numbered = found.2 ∙ behind.1; reason = found.3 }
+done-fault format columns text left line rest number rows new some begins d decode.TooMany told _ =
+    let found = told (λ e. cc) in
+    record { rows = rows; line = line; stands = (done-behind format columns text left line rest number rows some begins d found.0).0; full = found.1 }
+done-fault format columns text left line rest number rows new some begins d decode.NoMemory told want = absurd (want refl)
 
 -- an answer that hands this fault on
 pub handed-on : (format : Format) (columns : List Reader) (text : List ℕ) (answer : Result (List (List Value)) DecodeFault) (fault : DecodeFault) → IsErrAnd answer (λ told. told ≡ fault)
@@ -160,23 +164,25 @@ handed-on format columns text (Err told) fault same found =
 
 -- the fault of a line
 pub line-unread : (format : Format) (columns : List Reader) (line : List ℕ) (fault : LineFault) → UnlessNoMemory {A = Result (List Field) LineFault} (Err of_line.NoMemory) (Err fault) (LineGives format line (Err fault))
-    → LineDecodes format columns line (Err (row_fault fault))
-line-unread format columns line (of_line.BadEscape place) gives = Unread (of_line.BadEscape place) (gives (λ e. cc)) refl refl
-line-unread format columns line of_line.CarriageReturn gives = Unread of_line.CarriageReturn (gives (λ e. cc)) refl refl
-line-unread format columns line of_line.NotOneRecord gives = Unread of_line.NotOneRecord (gives (λ e. cc)) refl refl
-line-unread format columns line of_line.NoMemory gives = tt
+    → of_row.Unless (row_fault fault) (LineDecodes format columns line (Err (row_fault fault)))
+line-unread format columns line (of_line.BadEscape place) gives _ = Unread (of_line.BadEscape place) (gives (λ e. cc)) refl refl
+line-unread format columns line of_line.CarriageReturn gives _ = Unread of_line.CarriageReturn (gives (λ e. cc)) refl refl
+line-unread format columns line of_line.NotOneRecord gives _ = Unread of_line.NotOneRecord (gives (λ e. cc)) refl refl
+line-unread format columns line of_line.NoMemory gives want = absurd (want refl)
 
 -- the fields of a line and what the columns make of them
-pub line-valued : (format : Format) (columns : List Reader) (line : List ℕ) (fields : List Field) → FillsColumns format columns line fields → (made : Result (List Value) RowFault) → TakeAll columns fields made → LineDecodes format columns line made
-line-valued format columns line fields has (Ok values) taken = (fields, has, taken)
-line-valued format columns line fields has (Err (row.Bad column reason)) (before, fault, after, parts, at, why') = Unvalued fields before fault after has parts at why'
-line-valued format columns line fields has (Err row.NoMemory) taken = tt
+pub line-valued : (format : Format) (columns : List Reader) (line : List ℕ) (fields : List Field) → FillsColumns format columns line fields → (made : Result (List Value) RowFault)
+    → UnlessNoMemory (Err row.NoMemory) made (TakeAll columns fields made) → UnlessNoMemory (Err row.NoMemory) made (LineDecodes format columns line made)
+line-valued format columns line fields has (Ok values) taken want = (fields, has, taken want)
+line-valued format columns line fields has (Err (row.Bad column reason)) taken want =
+    let first = taken want in Unvalued fields first.0 first.1 first.2 has first.3 first.4 first.5
+line-valued format columns line fields has (Err row.NoMemory) taken want = absurd (want refl)
 
 -- the fault of the line of this number
 pub line-fault : (format : Format) (columns : List Reader) (line : List ℕ) (number : ℕ) (old new : List (List Value)) → is_row_line format line ≡ true → length old < MOST_ROWS → (fault : RowFault)
-    → LineDecodes format columns line (Err fault) → LineBrings format columns line number old (Err (fault_at number fault)) new
-line-fault format columns line number old new is room (row.Bad column reason) found = (is, room, refl, found)
-line-fault format columns line number old new is room row.NoMemory found = tt
+    → of_row.Unless fault (LineDecodes format columns line (Err fault)) → Unless {A = Unit {0}} (Err (fault_at number fault)) (LineBrings format columns line number old (Err (fault_at number fault)) new)
+line-fault format columns line number old new is room (row.Bad column reason) found _ = (is, room, refl, found (λ e. cc))
+line-fault format columns line number old new is room row.NoMemory found want = absurd (want refl)
 
 -- what stands behind the first line is shorter
 pub rest-shorter : (by : CutRule) (text line rest : List ℕ) → text ≢ [] → BeginsWithLine by text line rest → length rest < length text

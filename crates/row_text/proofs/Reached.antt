@@ -151,14 +151,18 @@ read-last line at size fields field ms p found end =
     )
 
 -- a fault
-pub read-fault : (line : List ℕ) (at : ℕ) (fields : List Field) (ms : List Mark) (e : LineFault) → HasRead line at fields ms → ReadsField (suffix line at) at (Err e) → UnlessNoMemory {A = Result (List Field) LineFault} (Err fault.NoMemory) (Err e) (TabAnswers line (Err e))
-read-fault line at fields ms (fault.BadEscape place) p q = λ _.
+pub read-fault : (line : List ℕ) (at : ℕ) (fields : List Field) (ms : List Mark) (e : LineFault) → HasRead line at fields ms
+    → UnlessNoMemory {A = Result (Field × ℕ) LineFault} (Err fault.NoMemory) (Err e) (ReadsField (suffix line at) at (Err e))
+    → UnlessNoMemory {A = Result (List Field) LineFault} (Err fault.NoMemory) (Err e) (TabAnswers line (Err e))
+read-fault line at fields ms (fault.BadEscape place) p found _ =
+    let q = found (λ e. cc) in
     let front = line-more line at q.1 fields ms q.0 p q.3 in
     rw q.2 (ms ++ q.0, front, subst IsBadEscape (ap (drop q.1) (take_rest line at) ∙ drop-drop q.1 at line) q.4)
-read-fault line at fields ms fault.CarriageReturn p q = λ _.
+read-fault line at fields ms fault.CarriageReturn p found _ =
+    let q = found (λ e. cc) in
     let long : length (suffix line at) ≡ length line - at = ap length (take_rest line at) ∙ length-drop at line in
     let whole : Spells (take (length (suffix line at)) (suffix line at)) q.0 = rw (take_all (length (suffix line at)) (suffix line at) (omega arith)) q.1 in
     let front = line-more line at (length (suffix line at)) fields ms q.0 p whole in
     (ms ++ q.0, subst (λ (t : List ℕ). Spells t (ms ++ q.0)) (take_all (at + length (suffix line at)) line (omega (arith, p.within))) front, ends-append_true ms q.0 q.2)
-read-fault line at fields ms fault.NotOneRecord p q = absurd q
-read-fault line at fields ms fault.NoMemory p q = λ some. absurd (some refl)
+read-fault line at fields ms fault.NotOneRecord p found _ = absurd (found (λ e. cc))
+read-fault line at fields ms fault.NoMemory p found some = absurd (some refl)

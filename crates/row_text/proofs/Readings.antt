@@ -7,6 +7,9 @@ use Rattle.dict_value.specs.declared.value.BadValue.TheVariants as value
 use Rattle.dict_value.specs.declared.value.Field.{Field}
 use Rattle.dict_value.specs.declared.value.Value.{Value}
 use Rattle.row_text.specs.Decoding.{Reader, Reads, readings}
+use Rattle.dict_value.specs.Memory.{UnlessNoMemory}
+use Rattle.row_text.specs.declared.decode.RowFault.{RowFault}
+use Rattle.row_text.specs.declared.decode.RowFault.TheVariants as no_row
 use Rattle.row_text.specs.steps.DecodeSteps.{TakeAll, column_fault}
 
 -- the next field goes to the column at its place, and those behind it to the columns behind that one
@@ -42,10 +45,14 @@ read-more columns before field row value below read taken =
     ∙ ap (λ (xs : List (Result Value BadValue)). readings columns before ++ Ok value ∷ xs) (readings-none t.later)
     ∙ ap (λ (xs : List (Result Value BadValue)). xs ++ Ok value ∷ []) read ∙ sym (map-append Ok row (value ∷ []))
 
+-- this holds of a row's fault, unless it is want of memory
+abbrev pub Unless : RowFault → Type 0 → Type 0
+Unless fault P = UnlessNoMemory {A = Result (List Value) RowFault} (Err no_row.NoMemory) (Err fault) P
+
 -- the first fault
 pub read-fault : (columns : List Reader) (fields before : List Field) (field : Field) (more : List Field) (row : List Value) (fault : BadValue)
     → fields ≡ before ++ field ∷ more → length row ≡ length before → length before < length columns → readings columns before ≡ map Ok row → Taken columns before field (Err fault)
-    → TakeAll columns fields (Err (column_fault (length row) fault))
+    → Unless (column_fault (length row) fault) (TakeAll columns fields (Err (column_fault (length row) fault)))
 read-fault columns fields before field more row fault split count below read taken =
     let t = turn columns before field more below in
     let parts : readings columns fields ≡ map Ok row ++ t.column field ∷ readings t.later more =
@@ -53,12 +60,13 @@ read-fault columns fields before field more row fault split count below read tak
     told (t.column field) (readings t.later more) fault (taken t.column t.here) parts
   where
     told : (made : Result Value BadValue) (later : List (Result Value BadValue)) (fault : BadValue) → Reads (λ _. made) field (Err fault)
-        → readings columns fields ≡ map Ok row ++ made ∷ later → TakeAll columns fields (Err (column_fault (length row) fault))
-    told made later value.NoMemory takes parts = tt
-    told made later value.NotANumber takes parts = (row, value.NotANumber, later, parts ∙ ap (λ (x : Result Value BadValue). map Ok row ++ x ∷ later) (sym takes), refl, refl)
-    told made later value.OutOfRange takes parts = (row, value.OutOfRange, later, parts ∙ ap (λ (x : Result Value BadValue). map Ok row ++ x ∷ later) (sym takes), refl, refl)
-    told made later value.BadDate takes parts = (row, value.BadDate, later, parts ∙ ap (λ (x : Result Value BadValue). map Ok row ++ x ∷ later) (sym takes), refl, refl)
-    told made later value.BadUuid takes parts = (row, value.BadUuid, later, parts ∙ ap (λ (x : Result Value BadValue). map Ok row ++ x ∷ later) (sym takes), refl, refl)
-    told made later value.BadAddress takes parts = (row, value.BadAddress, later, parts ∙ ap (λ (x : Result Value BadValue). map Ok row ++ x ∷ later) (sym takes), refl, refl)
-    told made later value.BadDecimal takes parts = (row, value.BadDecimal, later, parts ∙ ap (λ (x : Result Value BadValue). map Ok row ++ x ∷ later) (sym takes), refl, refl)
-    told made later value.NullNotAllowed takes parts = (row, value.NullNotAllowed, later, parts ∙ ap (λ (x : Result Value BadValue). map Ok row ++ x ∷ later) (sym takes), refl, refl)
+        → readings columns fields ≡ map Ok row ++ made ∷ later
+        → Unless (column_fault (length row) fault) (TakeAll columns fields (Err (column_fault (length row) fault)))
+    told made later value.NoMemory takes parts some = absurd (some refl)
+    told made later value.NotANumber takes parts _ = (row, value.NotANumber, later, parts ∙ ap (λ (x : Result Value BadValue). map Ok row ++ x ∷ later) (sym takes), refl, refl)
+    told made later value.OutOfRange takes parts _ = (row, value.OutOfRange, later, parts ∙ ap (λ (x : Result Value BadValue). map Ok row ++ x ∷ later) (sym takes), refl, refl)
+    told made later value.BadDate takes parts _ = (row, value.BadDate, later, parts ∙ ap (λ (x : Result Value BadValue). map Ok row ++ x ∷ later) (sym takes), refl, refl)
+    told made later value.BadUuid takes parts _ = (row, value.BadUuid, later, parts ∙ ap (λ (x : Result Value BadValue). map Ok row ++ x ∷ later) (sym takes), refl, refl)
+    told made later value.BadAddress takes parts _ = (row, value.BadAddress, later, parts ∙ ap (λ (x : Result Value BadValue). map Ok row ++ x ∷ later) (sym takes), refl, refl)
+    told made later value.BadDecimal takes parts _ = (row, value.BadDecimal, later, parts ∙ ap (λ (x : Result Value BadValue). map Ok row ++ x ∷ later) (sym takes), refl, refl)
+    told made later value.NullNotAllowed takes parts _ = (row, value.NullNotAllowed, later, parts ∙ ap (λ (x : Result Value BadValue). map Ok row ++ x ∷ later) (sym takes), refl, refl)

@@ -88,7 +88,8 @@ fn take_line<C: Columns>(
     requires bytes { length line.now ≤ u32.MAX }
     requires columns { length (C.columns columns.now) ≤ u32.MAX }
     requires few { length rows.old ≤ MOST_ROWS }
-    ensures { LineBrings format (C.columns columns.now) line.now number rows.old result rows.new }
+    ensures { UnlessNoMemory (Err DecodeFault.NoMemory) result
+        (LineBrings format (C.columns columns.now) line.now number rows.old result rows.new) }
 {
     if !is_row(format, line) {
         return Ok(());
@@ -144,7 +145,8 @@ fn read_row<C: Columns>(
 ) -> Result<Row, RowFault>
     requires bytes { length line.now ≤ u32.MAX }
     requires columns { length (C.columns columns.now) ≤ u32.MAX }
-    ensures { LineDecodes format (C.columns columns.now) line.now result }
+    ensures { UnlessNoMemory (Err RowFault.NoMemory) result
+        (LineDecodes format (C.columns columns.now) line.now result) }
 {
     let fields = match line_fields(alloc, format, line) {
         Ok(fields) => fields,
@@ -202,7 +204,7 @@ fn of_column(place: usize, fault: BadValue) -> RowFault
 fn read_values<C: Columns>(alloc: Global, columns: &C, fields: Fields) -> Result<Row, RowFault>
     requires count { length fields ≡ length (C.columns columns.now) }
     requires columns { length (C.columns columns.now) ≤ u32.MAX }
-    ensures { TakeAll (C.columns columns.now) fields result }
+    ensures { UnlessNoMemory (Err RowFault.NoMemory) result (TakeAll (C.columns columns.now) fields result) }
 {
     let Ok(mut row) = ListOf::with_room(alloc, fields.len()) else {
         return Err(RowFault::NoMemory);

@@ -54,7 +54,7 @@ fn read_line(alloc: Global, line: &[u8]) -> Result<Fields, LineFault>
 /// The first field of a text and its size; the text stands at this place of its line.
 fn read_field(alloc: Global, rest: &[u8], start: usize) -> Result<(Field, usize), LineFault>
     requires { start + length rest.now ≤ u32.MAX }
-    ensures { ReadsField rest.now start result }
+    ensures { UnlessNoMemory (Err LineFault.NoMemory) result (ReadsField rest.now start result) }
 {
     let mut text = Bytes::new(alloc);
     let mut at = 0;

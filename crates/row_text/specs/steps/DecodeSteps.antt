@@ -27,7 +27,7 @@ IsFirstFault columns fields column reason =
 abbrev pub TakeAll : List Reader → List Field → Result (List Value) RowFault → Type 0
 TakeAll columns fields (Ok values) = readings columns fields ≡ map Ok values
 TakeAll columns fields (Err (no_row.Bad column reason)) = IsFirstFault columns fields column reason
-TakeAll columns fields (Err no_row.NoMemory) = Unit {0}
+TakeAll columns fields (Err no_row.NoMemory) = ⊥
 
 -- a line's fault as that of a row
 abbrev pub row_fault : LineFault → RowFault
@@ -45,7 +45,7 @@ column_fault place fault = no_row.Bad (place + 1) (why.Value fault)
 abbrev pub LineDecodes : Format → List Reader → List ℕ → Result (List Value) RowFault → Type 0
 LineDecodes format columns line (Ok values) = IsTypedRow format columns line values
 LineDecodes format columns line (Err (no_row.Bad column reason)) = IsBadLine format columns line column reason
-LineDecodes format columns line (Err no_row.NoMemory) = Unit {0}
+LineDecodes format columns line (Err no_row.NoMemory) = ⊥
 
 -- the fault of the line of this number as that of its text
 abbrev pub fault_at : ℕ → RowFault → DecodeFault
@@ -71,7 +71,7 @@ abbrev pub LineFails : Format → List Reader → List ℕ → ℕ → List (Lis
 LineFails format columns line number old (decode.Bad bad) = (is_row_line format line ≡ true) × HasRoom old
     × (bad.line ≡ number) × IsBadLine format columns line bad.column bad.why
 LineFails format columns line number old decode.TooMany = (is_row_line format line ≡ true) × (length old ≡ MOST_ROWS)
-LineFails format columns line number old decode.NoMemory = Unit {0}
+LineFails format columns line number old decode.NoMemory = ⊥
 
 -- what the line of this number brings behind these rows
 abbrev pub LineBrings : Format → List Reader → List ℕ → ℕ → List (List Value)

@@ -42,7 +42,7 @@ ReadsField rest start (Ok found) = FieldOf rest found.0 found.1
 ReadsField rest start (Err (fault.BadEscape place)) = BadEscapeFrom rest start place
 ReadsField rest start (Err fault.CarriageReturn) = EndsInReturn rest
 ReadsField rest start (Err fault.NotOneRecord) = ⊥
-ReadsField rest start (Err fault.NoMemory) = Unit {0}
+ReadsField rest start (Err fault.NoMemory) = ⊥
 
 -- these fields stand before a place of the line where the next one begins
 pub record HasRead (line : List ℕ) (place : ℕ) (fields : List Field) (marks : List Mark) : Type 0 where

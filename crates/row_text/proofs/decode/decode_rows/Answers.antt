@@ -21,8 +21,8 @@ loop-left-preserved g c =
     let begins = subst (λ (by : CutRule). BeginsWithLine by c.loop-left.left.now c.first_line.result.0.now c.first_line.result.1.now) c.rule_for-rule.ensures c.first_line.ensures in
     let shorter = rest-shorter (rule_of c.args.format) c.loop-left.left.now c.first_line.result.0.now c.first_line.result.1.now some begins in
     record {
-      done = done-more c.args.format (g.C.Columns.columns c.args.columns.now) c.args.text.now c.loop-left.left.now c.first_line.result.0.now c.first_line.result.1.now c.loop-left.number c.loop-left.rows c.take_line.new.rows some begins c.loop-left.invariant.done c.in_ok-take_line.ensures;
-      few = rows-few c.args.format (g.C.Columns.columns c.args.columns.now) c.first_line.result.0.now c.loop-left.rows c.take_line.new.rows c.loop-left.invariant.few c.in_ok-take_line.ensures;
+      done = done-more c.args.format (g.C.Columns.columns c.args.columns.now) c.args.text.now c.loop-left.left.now c.first_line.result.0.now c.first_line.result.1.now c.loop-left.number c.loop-left.rows c.take_line.new.rows some begins c.loop-left.invariant.done (c.in_ok-take_line.ensures (λ e. cc));
+      few = rows-few c.args.format (g.C.Columns.columns c.args.columns.now) c.first_line.result.0.now c.loop-left.rows c.take_line.new.rows c.loop-left.invariant.few (c.in_ok-take_line.ensures (λ e. cc));
       within = omega (arith, shorter, c.loop-left.invariant.within);
     }
 

@@ -7,7 +7,7 @@ use Rattle.row_text.proofs.tab_row.read_field.Goals as goal
 use Rattle.row_text.proofs.tab_row.read_field.Goals.{else-run-gt0-via-then-run-gt0+else-left-run-eq-CARRIAGE_RETURN, else-run-gt0-via-else-run-gt0}
 
 pub returns-then-left-run-eq-CARRIAGE_RETURN : goal.returns-then-left-run-eq-CARRIAGE_RETURN
-returns-then-left-run-eq-CARRIAGE_RETURN c =
+returns-then-left-run-eq-CARRIAGE_RETURN c _ =
     let before = c.runs.invariant in
     let run = c.run_len-run in
     let reached = reach-plain c.args.rest.now c.runs.at run.result before.0 before.1 run.ensures.within run.ensures.plain in (
@@ -17,7 +17,7 @@ returns-then-left-run-eq-CARRIAGE_RETURN c =
     )
 
 pub returns-then-stop-rest : goal.returns-then-stop-rest
-returns-then-stop-rest c =
+returns-then-stop-rest c _ =
     let before = c.runs.invariant in
     let run = c.run_len-run in
     let left = suffix c.args.rest.now c.runs.at in
@@ -35,7 +35,7 @@ returns-then-stop-rest c =
     )
 
 pub returns-then-left-run-eq-TAB : goal.returns-then-left-run-eq-TAB
-returns-then-left-run-eq-TAB c =
+returns-then-left-run-eq-TAB c _ =
     let before = c.runs.invariant in
     let run = c.run_len-run in
     let left = suffix c.args.rest.now c.runs.at in
@@ -49,7 +49,7 @@ returns-then-left-run-eq-TAB c =
     )
 
 pub returns-in_default : goal.returns-in_default
-returns-in_default c =
+returns-in_default c _ =
     let before = c.runs.invariant in
     let run = c.run_len-run in
     let reached = reach-plain c.args.rest.now c.runs.at run.result before.0 before.1 run.ensures.within run.ensures.plain in
