@@ -7,18 +7,18 @@ use Rattle.dict_value.specs.declared.value.Format.TheVariants.{Tab}
 use Rattle.dict_value.specs.declared.value.Value.{Value}
 use Rattle.dict_value.specs.declared.value.Value.TheVariants.{S}
 use Rattle.dict_value.specs.Values.{reading}
-use Rattle.row_text.specs.Decoding.{Column, Decodes}
+use Rattle.row_text.specs.Decoding.{Decodes, Reader}
 use Rattle.load_core.specs.FlatRows.{IsRefusedFor, IsTable}
 
-abbrev pub key_column : Column
+abbrev pub key_column : Reader
 key_column seen = reading (record { base = UInt64; nullable = false }) seen
 
 -- NULL gives the default
-abbrev pub text_column : Column
+abbrev pub text_column : Reader
 text_column field.Null = Ok (S [])
 text_column (field.Text text) = Ok (S text)
 
-abbrev pub world_columns : List Column
+abbrev pub world_columns : List Reader
 world_columns = key_column ∷ text_column ∷ []
 
 -- what the judge says of a text, whatever the dictionary's number

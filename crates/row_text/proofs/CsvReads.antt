@@ -17,7 +17,7 @@ use Rattle.dict_value.specs.declared.value.Field.TheVariants as field
 use Rattle.dict_value.specs.declared.fault.LineFault.{LineFault}
 use Rattle.dict_value.specs.declared.fault.LineFault.TheVariants as fault
 use Rattle.row_text.specs.CsvRow.{CsvAnswers, IsCsvRow, IsRecord}
-use Rattle.row_text.specs.TabRow.{GivenMemory}
+use Rattle.dict_value.specs.Memory.{UnlessNoMemory}
 
 -- a reader that has read nothing of these bytes yet
 pub record Fresh {R : Type 0} (rem : R → Option (List ℕ)) (a : Reader R) (bytes : List ℕ) : Type 0 where
@@ -46,11 +46,11 @@ unfolding Reached
 first-read rem a b bytes texts f r = rows-more rem a b texts default_config st.StartRecord bytes bytes [] f.config f.source (f.start, refl) r
 
 -- what the reads of a line show of its records
-no-records : (bytes : List ℕ) (texts : List (List ℕ)) → next_record default_config st.StartRecord [] [] bytes ≡ None → AreRecords default_config st.StartRecord bytes (texts ∷ []) → ⊥
+pub no-records : (bytes : List ℕ) (texts : List (List ℕ)) → next_record default_config st.StartRecord [] [] bytes ≡ None → AreRecords default_config st.StartRecord bytes (texts ∷ []) → ⊥
 unfolding Reached
 no-records bytes texts none (s, left, (p, e, is, rest), end) = cc (sym none ∙ e)
 
-two-records : (bytes : List ℕ) (texts first next : List (List ℕ)) (s : State) (left : List ℕ) → Reached default_config st.StartRecord bytes (first ∷ next ∷ []) s left → AreRecords default_config st.StartRecord bytes (texts ∷ []) → ⊥
+pub two-records : (bytes : List ℕ) (texts first next : List (List ℕ)) (s : State) (left : List ℕ) → Reached default_config st.StartRecord bytes (first ∷ next ∷ []) s left → AreRecords default_config st.StartRecord bytes (texts ∷ []) → ⊥
 unfolding Reached
 two-records bytes texts first next s left (p, e, is, (q, e', is2, rest)) (s', left', (p', f, is', (at, over)), end) =
     let same : p ≡ p' = cc (sym e ∙ f) in
@@ -97,12 +97,9 @@ one-answer line (Err fault.NotOneRecord) (Err fault.NotOneRecord) p q = refl
 one-answer line (Err fault.NotOneRecord) (Err fault.NoMemory) p q = absurd q
 
 -- so what was answered is any other answer
-pub only-answer : (line : List ℕ) (r a : Result (List Field) LineFault) → GivenMemory r (CsvAnswers line r) → CsvAnswers line a → GivenMemory r (r ≡ a)
-only-answer line (Ok f) a p q = one-answer line (Ok f) a p q
-only-answer line (Err (fault.BadEscape i)) a p q = absurd p
-only-answer line (Err fault.CarriageReturn) a p q = absurd p
-only-answer line (Err fault.NotOneRecord) a p q = one-answer line (Err fault.NotOneRecord) a p q
-only-answer line (Err fault.NoMemory) a p q = tt
+pub only-answer : (line : List ℕ) (r a : Result (List Field) LineFault) → UnlessNoMemory (Err fault.NoMemory) r (CsvAnswers line r)
+    → CsvAnswers line a → UnlessNoMemory (Err fault.NoMemory) r (r ≡ a)
+only-answer line r a p q = λ some. one-answer line r a (p some) q
 
 -- the fields of a record, one after another
 pub there : (texts : List (List ℕ)) (at : ℕ) (text : List ℕ) → Some text ≡ field_at texts at → at < length texts

@@ -11,17 +11,20 @@ use Rattle.dict_value.specs.declared.value.Field.{Field}
 use Rattle.dict_value.specs.declared.value.Format.{Format}
 use Rattle.dict_value.specs.declared.value.Value.{Value}
 use Rattle.row_text.specs.declared.cutter.CutRule.{CutRule}
-use Rattle.row_text.specs.Letters.{line_feed}
-use Rattle.row_text.specs.Cutting.{BeginsWithLine, IsOpen, IsWhole, ended, keeps_open}
+use Rattle.row_text.specs.declared.letters.TheConstants.{LINE_FEED}
+use Rattle.row_text.specs.Cutting.{IsOpen, IsWhole, ended, keeps_open}
 use Rattle.row_text.specs.Tables.{AreLines, last_line}
-use Rattle.row_text.specs.Decoding.{AreTypedRows, Column, Decodes, FillsColumns, IsTypedRow, LineGives, StandsBehind, UnlessNoMemory, Unread, Unvalued, is_row_line, most_rows, rule_of}
-use Rattle.row_text.specs.DecodeSteps.{AddsLine, LineBrings, LineDecodes, TakeAll, fault_at, row_fault}
-use Rattle.row_text.specs.TabRow.{GivenMemory}
+use Rattle.row_text.specs.Decoding.{AreTypedRows, Reader, Decodes, FillsColumns, IsTypedRow, LineGives, StandsBehind, Unread, Unvalued, is_row_line, rule_of}
+use Rattle.row_text.specs.steps.CutSteps.{BeginsWithLine}
+use Rattle.row_text.specs.steps.DecodeSteps.{AddsLine, LineBrings, LineDecodes, TakeAll, fault_at, row_fault}
+use Rattle.dict_value.specs.Memory.{UnlessNoMemory}
+use Rattle.dict_value.specs.declared.value.TheConstants.{MOST_ROWS}
 use Rattle.row_text.specs.declared.decode.DecodeFault.{DecodeFault}
 use Rattle.row_text.specs.declared.decode.DecodeFault.TheVariants as decode
 use Rattle.row_text.specs.declared.decode.RowFault.{RowFault}
 use Rattle.row_text.specs.declared.decode.RowFault.TheVariants as row
 use Rattle.row_text.proofs.CutSteps.{open-nil, open-push}
+use Rattle.row_text.proofs.Readings as of_row
 use Rattle.row_text.proofs.Tabled.{one-lines}
 
 -- no text, no line
@@ -52,12 +55,12 @@ longer by row b text (lines, are) = (lines, subst (λ (t : List ℕ). AreLines b
 -- each text has lines
 pub all-lines : (by : CutRule) (row text : List ℕ) → IsOpen by row → (lines : List (List ℕ)) × AreLines by (row ++ text) lines
 all-lines by row [] opened = (last_line row, subst (λ (t : List ℕ). AreLines by t (last_line row)) (sym (append-nil row)) (lines-open by row opened))
-all-lines by row (b ∷ text) opened = elim (cases_eq b line_feed) [
+all-lines by row (b ∷ text) opened = elim (cases_eq b LINE_FEED) [
   | inl feed ↦ elim (cases_Bool (keeps_open by row)) [
     | inl kept ↦ longer by row b text (all-lines by (row ++ b ∷ []) text (open-push by row b opened (λ _. kept)))
     | inr ends ↦
         let more = all-lines by [] text (open-nil by) in
-        (row ∷ more.0, subst (λ (t : List ℕ). AreLines by t (row ∷ more.0)) (append_assoc row (line_feed ∷ []) text ∙ ap (λ (n : ℕ). row ++ n ∷ text) (sym feed)) (lines-whole by row text more.0 (record { opened = opened; ends = ends }) more.1))
+        (row ∷ more.0, subst (λ (t : List ℕ). AreLines by t (row ∷ more.0)) (append_assoc row (LINE_FEED ∷ []) text ∙ ap (λ (n : ℕ). row ++ n ∷ text) (sym feed)) (lines-whole by row text more.0 (record { opened = opened; ends = ends }) more.1))
   ]
   | inr other ↦ longer by row b text (all-lines by (row ++ b ∷ []) text (open-push by row b opened (λ e. absurd (other e))))
 ]
@@ -72,14 +75,14 @@ lines-first by (b ∷ text) line rest later some (inr (opened, is, none)) are =
     (lines-open by (b ∷ text) (subst (IsOpen by) (sym is) opened))
 
 -- the lines before what is left are so many, and have these rows
-pub record Done (format : Format) (columns : List Column) (text left : List ℕ) (number : ℕ) (rows : List (List Value)) : Type 0 where
+pub record Done (format : Format) (columns : List Reader) (text left : List ℕ) (number : ℕ) (rows : List (List Value)) : Type 0 where
   pub lines : List (List ℕ)
   pub typed : AreTypedRows format columns lines rows
   pub counted : number ≡ length lines
   pub onward : (later : List (List ℕ)) → AreLines (rule_of format) left later → AreLines (rule_of format) text (lines ++ later)
 
 -- nothing is decoded
-pub done-none : (format : Format) (columns : List Column) (text : List ℕ) → Done format columns text text 0 []
+pub done-none : (format : Format) (columns : List Reader) (text : List ℕ) → Done format columns text text 0 []
 done-none format columns text = record { lines = []; typed = tt; counted = refl; onward = λ later are. are }
 
 -- one more line and its row
@@ -96,7 +99,7 @@ filter-push format (l ∷ lines) line = elim (cases_Bool (is_row_line format l))
   | inr no' ↦ rw no' (filter-push format lines line)
 ]
 
-typed-more : (format : Format) (columns : List Column) (lines : List (List ℕ)) (line : List ℕ) (rows new : List (List Value)) → AreTypedRows format columns lines rows → AddsLine format columns line rows new → AreTypedRows format columns (lines ++ line ∷ []) new
+pub typed-more : (format : Format) (columns : List Reader) (lines : List (List ℕ)) (line : List ℕ) (rows new : List (List Value)) → AreTypedRows format columns lines rows → AddsLine format columns line rows new → AreTypedRows format columns (lines ++ line ∷ []) new
 typed-more format columns lines line rows new typed (inl (blank, same)) =
     let kept : filter (is_row_line format) (line ∷ []) ≡ [] = rw blank refl in
     rw (filter-push format lines line, kept, append-nil (filter (is_row_line format) lines), same) typed
@@ -104,7 +107,7 @@ typed-more format columns lines line rows new typed (inr (is, few, (values, row,
     let kept : filter (is_row_line format) (line ∷ []) ≡ line ∷ [] = rw is refl in
     rw (filter-push format lines line, kept, same) (typed-row (IsTypedRow format columns) (filter (is_row_line format) lines) rows line values typed row)
 
-pub done-more : (format : Format) (columns : List Column) (text left line rest : List ℕ) (number : ℕ) (rows new : List (List Value)) → left ≢ [] → BeginsWithLine (rule_of format) left line rest
+pub done-more : (format : Format) (columns : List Reader) (text left line rest : List ℕ) (number : ℕ) (rows new : List (List Value)) → left ≢ [] → BeginsWithLine (rule_of format) left line rest
     → Done format columns text left number rows → AddsLine format columns line rows new → Done format columns text rest (number + 1) new
 done-more format columns text left line rest number rows new some begins d adds = record {
   lines = d.lines ++ line ∷ [];
@@ -114,7 +117,7 @@ done-more format columns text left line rest number rows new some begins d adds 
 }
 
 -- the next line stands behind what is decoded
-pub done-behind : (format : Format) (columns : List Column) (text left line rest : List ℕ) (number : ℕ) (rows : List (List Value)) → left ≢ [] → BeginsWithLine (rule_of format) left line rest
+pub done-behind : (format : Format) (columns : List Reader) (text left line rest : List ℕ) (number : ℕ) (rows : List (List Value)) → left ≢ [] → BeginsWithLine (rule_of format) left line rest
     → Done format columns text left number rows → is_row_line format line ≡ true → (stands : StandsBehind format columns text rows line) × (number + 1 ≡ length stands.before + 1)
 done-behind format columns text left line rest number rows some begins d is =
     let later = all-lines (rule_of format) [] rest (open-nil (rule_of format)) in (
@@ -129,55 +132,65 @@ done-behind format columns text left line rest number rows some begins d is =
     )
 
 -- nothing is left
-pub done-all : (format : Format) (columns : List Column) (text left : List ℕ) (number : ℕ) (rows : List (List Value)) → left ≡ [] → Done format columns text left number rows
+pub done-all : (format : Format) (columns : List Reader) (text left : List ℕ) (number : ℕ) (rows : List (List Value)) → left ≡ [] → Done format columns text left number rows
     → (lines : List (List ℕ)) × AreLines (rule_of format) text lines × AreTypedRows format columns lines rows
 done-all format columns text left number rows none d =
     (d.lines, subst (AreLines (rule_of format) text) (append-nil d.lines) (d.onward [] (subst (λ (t : List ℕ). AreLines (rule_of format) t []) (sym none) (lines-nil (rule_of format)))), d.typed)
 
+-- this holds, unless the answer is want of memory
+abbrev pub Unless : {A : Type 0} → Result A DecodeFault → Type 0 → Type 0
+Unless answer P = UnlessNoMemory (Err decode.NoMemory) answer P
+
 -- the fault of the next line is that of the text
-pub done-fault : (format : Format) (columns : List Column) (text left line rest : List ℕ) (number : ℕ) (rows new : List (List Value)) → left ≢ [] → BeginsWithLine (rule_of format) left line rest
-    → Done format columns text left number rows → (fault : DecodeFault) → LineBrings format columns line (number + 1) rows (Err fault) new
-    → UnlessNoMemory {A = List (List Value)} (Err fault) (Decodes format columns text (Err fault))
-done-fault format columns text left line rest number rows new some begins d (decode.Bad bad) (is, room, at, reason) =
-    let behind = done-behind format columns text left line rest number rows some begins d is in
-    record { rows = rows; line = line; stands = behind.0; room = room; numbered = at ∙ behind.1; reason = reason }
-done-fault format columns text left line rest number rows new some begins d decode.TooMany (is, full) =
-    record { rows = rows; line = line; stands = (done-behind format columns text left line rest number rows some begins d is).0; full = full }
-done-fault format columns text left line rest number rows new some begins d decode.NoMemory found = tt
+pub done-fault : (format : Format) (columns : List Reader) (text left line rest : List ℕ) (number : ℕ) (rows new : List (List Value)) → left ≢ [] → BeginsWithLine (rule_of format) left line rest
+    → Done format columns text left number rows → (fault : DecodeFault)
+    → Unless {A = Unit {0}} (Err fault) (LineBrings format columns line (number + 1) rows (Err fault) new)
+    → Unless {A = List (List Value)} (Err fault) (Decodes format columns text (Err fault))
+done-fault format columns text left line rest number rows new some begins d (decode.Bad bad) told _ =
+    let found = told (λ e. cc) in
+    let behind = done-behind format columns text left line rest number rows some begins d found.0 in
+    record { rows = rows; line = line; stands = behind.0; room = found.1; numbered = found.2 ∙ behind.1; reason = found.3 }
+done-fault format columns text left line rest number rows new some begins d decode.TooMany told _ =
+    let found = told (λ e. cc) in
+    record { rows = rows; line = line; stands = (done-behind format columns text left line rest number rows some begins d found.0).0; full = found.1 }
+done-fault format columns text left line rest number rows new some begins d decode.NoMemory told want = absurd (want refl)
 
 -- an answer that hands this fault on
-pub handed-on : (format : Format) (columns : List Column) (text : List ℕ) (answer : Result (List (List Value)) DecodeFault) (fault : DecodeFault) → IsErrAnd answer (λ told. told ≡ fault)
-    → UnlessNoMemory {A = List (List Value)} (Err fault) (Decodes format columns text (Err fault)) → UnlessNoMemory answer (Decodes format columns text answer)
+pub handed-on : (format : Format) (columns : List Reader) (text : List ℕ) (answer : Result (List (List Value)) DecodeFault) (fault : DecodeFault) → IsErrAnd answer (λ told. told ≡ fault)
+    → Unless {A = List (List Value)} (Err fault) (Decodes format columns text (Err fault)) → Unless answer (Decodes format columns text answer)
 handed-on format columns text (Ok rows) fault same found = absurd same
 handed-on format columns text (Err told) fault same found =
-    subst (λ (x : DecodeFault). UnlessNoMemory {A = List (List Value)} (Err x) (Decodes format columns text (Err x))) (sym same) found
+    subst (λ (x : DecodeFault). Unless {A = List (List Value)} (Err x) (Decodes format columns text (Err x))) (sym same) found
 
 -- the fault of a line
-pub line-unread : (format : Format) (columns : List Column) (line : List ℕ) (fault : LineFault) → GivenMemory {A = List Field} (Err fault) (LineGives format line (Err fault)) → LineDecodes format columns line (Err (row_fault fault))
-line-unread format columns line (of_line.BadEscape place) gives = Unread (of_line.BadEscape place) gives refl refl
-line-unread format columns line of_line.CarriageReturn gives = Unread of_line.CarriageReturn gives refl refl
-line-unread format columns line of_line.NotOneRecord gives = Unread of_line.NotOneRecord gives refl refl
-line-unread format columns line of_line.NoMemory gives = tt
+pub line-unread : (format : Format) (columns : List Reader) (line : List ℕ) (fault : LineFault) → UnlessNoMemory {A = Result (List Field) LineFault} (Err of_line.NoMemory) (Err fault) (LineGives format line (Err fault))
+    → of_row.Unless (row_fault fault) (LineDecodes format columns line (Err (row_fault fault)))
+line-unread format columns line (of_line.BadEscape place) gives _ = Unread (of_line.BadEscape place) (gives (λ e. cc)) refl refl
+line-unread format columns line of_line.CarriageReturn gives _ = Unread of_line.CarriageReturn (gives (λ e. cc)) refl refl
+line-unread format columns line of_line.NotOneRecord gives _ = Unread of_line.NotOneRecord (gives (λ e. cc)) refl refl
+line-unread format columns line of_line.NoMemory gives want = absurd (want refl)
 
 -- the fields of a line and what the columns make of them
-pub line-valued : (format : Format) (columns : List Column) (line : List ℕ) (fields : List Field) → FillsColumns format columns line fields → (made : Result (List Value) RowFault) → TakeAll columns fields made → LineDecodes format columns line made
-line-valued format columns line fields has (Ok values) taken = (fields, has, taken)
-line-valued format columns line fields has (Err (row.Bad column reason)) (before, fault, after, parts, at, why') = Unvalued fields before fault after has parts at why'
-line-valued format columns line fields has (Err row.NoMemory) taken = tt
+pub line-valued : (format : Format) (columns : List Reader) (line : List ℕ) (fields : List Field) → FillsColumns format columns line fields → (made : Result (List Value) RowFault)
+    → UnlessNoMemory (Err row.NoMemory) made (TakeAll columns fields made) → UnlessNoMemory (Err row.NoMemory) made (LineDecodes format columns line made)
+line-valued format columns line fields has (Ok values) taken want = (fields, has, taken want)
+line-valued format columns line fields has (Err (row.Bad column reason)) taken want =
+    let first = taken want in Unvalued fields first.0 first.1 first.2 has first.3 first.4 first.5
+line-valued format columns line fields has (Err row.NoMemory) taken want = absurd (want refl)
 
 -- the fault of the line of this number
-pub line-fault : (format : Format) (columns : List Column) (line : List ℕ) (number : ℕ) (old new : List (List Value)) → is_row_line format line ≡ true → length old < most_rows → (fault : RowFault)
-    → LineDecodes format columns line (Err fault) → LineBrings format columns line number old (Err (fault_at number fault)) new
-line-fault format columns line number old new is room (row.Bad column reason) found = (is, room, refl, found)
-line-fault format columns line number old new is room row.NoMemory found = tt
+pub line-fault : (format : Format) (columns : List Reader) (line : List ℕ) (number : ℕ) (old new : List (List Value)) → is_row_line format line ≡ true → length old < MOST_ROWS → (fault : RowFault)
+    → of_row.Unless fault (LineDecodes format columns line (Err fault)) → Unless {A = Unit {0}} (Err (fault_at number fault)) (LineBrings format columns line number old (Err (fault_at number fault)) new)
+line-fault format columns line number old new is room (row.Bad column reason) found _ = (is, room, refl, found (λ e. cc))
+line-fault format columns line number old new is room row.NoMemory found want = absurd (want refl)
 
 -- what stands behind the first line is shorter
 pub rest-shorter : (by : CutRule) (text line rest : List ℕ) → text ≢ [] → BeginsWithLine by text line rest → length rest < length text
-rest-shorter by text line rest some (inl (whole, is)) = omega (arith, ap length is, length-append (ended line) rest, length-append line (line_feed ∷ []))
+rest-shorter by text line rest some (inl (whole, is)) = omega (arith, ap length is, length-append (ended line) rest, length-append line (LINE_FEED ∷ []))
 rest-shorter by [] line rest some (inr (opened, is, none)) = absurd (some refl)
 rest-shorter by (b ∷ text) line rest some (inr (opened, is, none)) = omega (arith, ap length none)
 
 -- one more line brings one row more at most, and none to a full list
-pub rows-few : (format : Format) (columns : List Column) (line : List ℕ) (old new : List (List Value)) → length old ≤ most_rows → AddsLine format columns line old new → length new ≤ most_rows
+pub rows-few : (format : Format) (columns : List Reader) (line : List ℕ) (old new : List (List Value)) → length old ≤ MOST_ROWS → AddsLine format columns line old new → length new ≤ MOST_ROWS
 rows-few format columns line old new few (inl (blank, same)) = omega (arith, ap length same)
 rows-few format columns line old new few (inr (is, room, (values, row, same))) = omega (arith, ap length same, length-append old (values ∷ []))

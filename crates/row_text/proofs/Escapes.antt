@@ -1,10 +1,10 @@
 -- The escape that a text begins with.
 use Rattle.std.proofs.Common.{◌≡◌, ◌≢◌, ◌≤◌, ◌+◌, ◌*◌, ◌∷◌, [], ℕ, List, length, get_or, refl, arith, Some}
-use Rattle.row_text.specs.Letters.{backslash, letter_x}
+use Rattle.row_text.specs.declared.letters.TheConstants.{BACKSLASH, LETTER_X}
 use Rattle.row_text.specs.Marks.{escaped, hex, hex_digit, unescaped}
-use Rattle.row_text.specs.TabSteps.{EscapeOf}
+use Rattle.row_text.specs.steps.TabSteps.{EscapeOf}
 
-pub escape-one : (text : List ℕ) → get_or text 0 0 ≡ backslash → 2 ≤ length text → get_or text 1 0 ≢ letter_x → EscapeOf text (Some (unescaped (get_or text 1 0), 2))
+pub escape-one : (text : List ℕ) → get_or text 0 0 ≡ BACKSLASH → 2 ≤ length text → get_or text 1 0 ≢ LETTER_X → EscapeOf text (Some (unescaped (get_or text 1 0), 2))
 escape-one [] first long other = absurd (omega (arith, long))
 escape-one (a ∷ []) first long other = absurd (omega (arith, long))
 escape-one (a ∷ b ∷ rest) first long other = (
@@ -19,7 +19,7 @@ escape-one (a ∷ b ∷ rest) first long other = (
   },
 )
 
-pub escape-hex : (text : List ℕ) (high low : ℕ) → get_or text 0 0 ≡ backslash → 4 ≤ length text → get_or text 1 0 ≡ letter_x
+pub escape-hex : (text : List ℕ) (high low : ℕ) → get_or text 0 0 ≡ BACKSLASH → 4 ≤ length text → get_or text 1 0 ≡ LETTER_X
     → hex_digit (get_or text 2 0) ≡ Some high → hex_digit (get_or text 3 0) ≡ Some low → EscapeOf text (Some (16 * high + low, 4))
 escape-hex [] high low first long other p q = absurd (omega (arith, long))
 escape-hex (a ∷ []) high low first long other p q = absurd (omega (arith, long))

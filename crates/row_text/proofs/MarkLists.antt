@@ -4,10 +4,10 @@ use Rattle.std.specs.List.{AllByRecursion, flat_map}
 use Rattle.std.proofs.lemmas.List.{append-nil}
 use Rattle.std.proofs.lemmas.Bool.{ne_eqb}
 use Rattle.std.proofs.lemmas.List.Concat.{flat_map-append}
-use Rattle.row_text.specs.Letters.{tab, carriage_return}
+use Rattle.row_text.specs.declared.letters.TheConstants.{TAB, CARRIAGE_RETURN}
 use Rattle.row_text.specs.Marks.{Mark, bare, IsMark, Spells, meant, spelled}
 use Rattle.row_text.specs.TabRow.{ends_in_return, is_tab}
-use Rattle.row_text.specs.TabSteps.{IsPlain}
+use Rattle.row_text.specs.steps.TabSteps.{IsPlain}
 
 pub all-append : {X : Type 0} (P : X → Type 0) (xs ys : List X) → AllByRecursion P xs → AllByRecursion P ys → AllByRecursion P (xs ++ ys)
 all-append P [] ys p q = q
@@ -43,7 +43,7 @@ run-valid (b ∷ run) p = (p.0.1, run-valid run p.1)
 
 pub run-untabbed : (run : List ℕ) → AllByRecursion IsPlain run → AllByRecursion (λ m. is_tab m ≡ false) (map bare run)
 run-untabbed [] p = tt
-run-untabbed (b ∷ run) p = (ne_eqb b tab p.0.0, run-untabbed run p.1)
+run-untabbed (b ∷ run) p = (ne_eqb b TAB p.0.0, run-untabbed run p.1)
 
 pub run-spelled : (run : List ℕ) → flat_map spelled (map bare run) ≡ run
 run-spelled [] = refl
@@ -53,7 +53,7 @@ pub run-meant : (run : List ℕ) → map meant (map bare run) ≡ run
 run-meant [] = refl
 run-meant (b ∷ run) = ap (λ (t : List ℕ). b ∷ t) (run-meant run)
 
-pub run-ends : (run : List ℕ) (k : ℕ) → length run ≡ suc k → ends_in_return (map bare run) ≡ (get_or run k 0 == carriage_return)
+pub run-ends : (run : List ℕ) (k : ℕ) → length run ≡ suc k → ends_in_return (map bare run) ≡ (get_or run k 0 == CARRIAGE_RETURN)
 run-ends [] k e = absurd (omega (arith, e))
 run-ends (b ∷ []) zero e = refl
 run-ends (b ∷ []) (suc k) e = absurd (omega (arith, e))

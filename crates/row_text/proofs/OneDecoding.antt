@@ -12,7 +12,7 @@ use Rattle.dict_value.specs.declared.value.Field.{Field}
 use Rattle.dict_value.specs.declared.value.Format.{Format}
 use Rattle.dict_value.specs.declared.value.Format.TheVariants.{Tab, Csv}
 use Rattle.dict_value.specs.declared.value.Value.{Value}
-use Rattle.row_text.specs.Decoding.{AreTypedRows, Column, Decodes, HasBadRow, HasRows, HasTooMany, IsBadLine, IsTypedRow, LineGives, Miscounted, StandsBehind, Unread, Unvalued, is_row_line, readings, rule_of, told_count, why_of}
+use Rattle.row_text.specs.Decoding.{AreTypedRows, Reader, Decodes, HasBadRow, HasRows, HasTooMany, IsBadLine, IsTypedRow, LineGives, Miscounted, StandsBehind, Unread, Unvalued, is_row_line, readings, rule_of, told_count, why_of}
 use Rattle.row_text.specs.declared.decode.DecodeFault.{DecodeFault}
 use Rattle.row_text.specs.declared.decode.DecodeFault.TheVariants as decode
 use Rattle.row_text.proofs.CsvReads as csv
@@ -21,7 +21,7 @@ use Rattle.row_text.proofs.Tabled as tabled
 use Rattle.row_text.proofs.Tabled.{one-lines}
 
 -- a line has one list of fields, or one fault
-one-gives : (format : Format) (line : List ℕ) (a b : Result (List Field) LineFault) → LineGives format line a → LineGives format line b → a ≡ b
+pub one-gives : (format : Format) (line : List ℕ) (a b : Result (List Field) LineFault) → LineGives format line a → LineGives format line b → a ≡ b
 one-gives Tab line a b p q = tab.one-answer line a b p q
 one-gives Csv line a b p q = csv.one-answer line a b p q
 
@@ -51,12 +51,12 @@ same-fault (x ∷ v) [] fault other a b e = cc
 same-fault (x ∷ v) (y ∷ w) fault other a b e = let rest = same-fault v w fault other a b cc in (omega (arith, rest.0), rest.1)
 
 -- a line is one row
-same-row : (format : Format) (columns : List Column) (line : List ℕ) (v w : List Value) → IsTypedRow format columns line v → IsTypedRow format columns line w → v ≡ w
+same-row : (format : Format) (columns : List Reader) (line : List ℕ) (v w : List Value) → IsTypedRow format columns line v → IsTypedRow format columns line w → v ≡ w
 same-row format columns line v w (f, (gives, count), read) (g, (gives', count'), read') =
     same-values v w (sym read ∙ ap (readings columns) (same-fields format line f g gives gives') ∙ read')
 
 -- a bad line is no row
-not-row : (format : Format) (columns : List Column) (line : List ℕ) (column : ℕ) (reason : Why) (row : List Value) → IsBadLine format columns line column reason → IsTypedRow format columns line row → ⊥
+not-row : (format : Format) (columns : List Reader) (line : List ℕ) (column : ℕ) (reason : Why) (row : List Value) → IsBadLine format columns line column reason → IsTypedRow format columns line row → ⊥
 not-row format columns line column reason row (Unread fault gives at why') (g, (gives', count'), read') = no-fault format line g fault gives' gives
 not-row format columns line column reason row (Miscounted f gives count at why') (g, (gives', count'), read') =
     count (ap length (same-fields format line f g gives gives') ∙ count')
@@ -64,7 +64,7 @@ not-row format columns line column reason row (Unvalued f before fault after (gi
     not-values row before fault after (sym read' ∙ ap (readings columns) (same-fields format line g f gives' gives) ∙ read)
 
 -- a bad line has one column and one reason
-same-reason : (format : Format) (columns : List Column) (line : List ℕ) (i j : ℕ) (a b : Why) → IsBadLine format columns line i a → IsBadLine format columns line j b → (i ≡ j) × (a ≡ b)
+same-reason : (format : Format) (columns : List Reader) (line : List ℕ) (i j : ℕ) (a b : Why) → IsBadLine format columns line i a → IsBadLine format columns line j b → (i ≡ j) × (a ≡ b)
 same-reason format columns line i j a b (Unread x gives at told) (Unread y gives' at' told') =
     let same : x ≡ y = cc (one-gives format line (Err x) (Err y) gives gives') in
     (cc, told ∙ ap why_of same ∙ sym told')
@@ -83,18 +83,18 @@ same-reason format columns line i j a b (Unvalued f v x after (gives, count) rea
     (omega (arith, same.0), told ∙ ap why.Value same.1 ∙ sym told')
 
 -- lines are one list of rows
-same-rows : (format : Format) (columns : List Column) (lines : List (List ℕ)) (rows others : List (List Value)) → AreTypedRows format columns lines rows → AreTypedRows format columns lines others → rows ≡ others
+same-rows : (format : Format) (columns : List Reader) (lines : List (List ℕ)) (rows others : List (List Value)) → AreTypedRows format columns lines rows → AreTypedRows format columns lines others → rows ≡ others
 same-rows format columns lines rows others p q = tabled.same-rows (IsTypedRow format columns) (same-row format columns) (filter (is_row_line format) lines) rows others p q
 
 -- the row of a line among typed rows, and the rows in front of it
-record Behind (format : Format) (columns : List Column) (before : List (List ℕ)) (line : List ℕ) (rows : List (List Value)) : Type 0 where
+record Behind (format : Format) (columns : List Reader) (before : List (List ℕ)) (line : List ℕ) (rows : List (List Value)) : Type 0 where
   pub front : List (List Value)
   pub row : List Value
   pub typed : AreTypedRows format columns before front
   pub here : IsTypedRow format columns line row
   pub more : length front < length rows
 
-behind : (format : Format) (columns : List Column) (before : List (List ℕ)) (line : List ℕ) (after : List (List ℕ)) (rows : List (List Value)) → is_row_line format line ≡ true
+behind : (format : Format) (columns : List Reader) (before : List (List ℕ)) (line : List ℕ) (after : List (List ℕ)) (rows : List (List Value)) → is_row_line format line ≡ true
     → AreTypedRows format columns (before ++ line ∷ after) rows → Behind format columns before line rows
 behind format columns [] line after rows is typed = first rows (rw is at typed)
   where
@@ -134,31 +134,31 @@ two-places (b ∷ before) line after (f ∷ front) other back e =
     ]
 
 -- where two lines of one text stand
-places : (format : Format) (columns : List Column) (text : List ℕ) (rows others : List (List Value)) (line other : List ℕ)
+places : (format : Format) (columns : List Reader) (text : List ℕ) (rows others : List (List Value)) (line other : List ℕ)
     → (s : StandsBehind format columns text rows line) → (t : StandsBehind format columns text others other) → TwoPlaces s.before line t.before other
 places format columns text rows others line other s t =
     two-places s.before line s.after t.before other t.after (one-lines (rule_of format) text _ _ s.cut t.cut)
 
 -- the row of a line that stands in front of another
-sooner : (format : Format) (columns : List Column) (text : List ℕ) (rows : List (List Value)) (line : List ℕ) (lines more : List (List ℕ)) (others : List (List Value))
+sooner : (format : Format) (columns : List Reader) (text : List ℕ) (rows : List (List Value)) (line : List ℕ) (lines more : List (List ℕ)) (others : List (List Value))
     → (s : StandsBehind format columns text rows line) → lines ≡ s.before ++ line ∷ more → AreTypedRows format columns lines others → ((row : List Value) × IsTypedRow format columns line row) × (length rows < length others)
 sooner format columns text rows line lines more others s e typed =
     let b = behind format columns s.before line more others s.is_row (subst (λ (ls : List (List ℕ)). AreTypedRows format columns ls others) e typed) in
     ((b.row, b.here), rw (same-rows format columns s.before rows b.front s.typed b.typed) b.more)
 
 -- a text of rows has no bad row, and not too many
-rows-not_bad : (format : Format) (columns : List Column) (text : List ℕ) (rows : List (List Value)) (bad : BadRow) → HasRows format columns text rows → HasBadRow format columns text bad → ⊥
+rows-not_bad : (format : Format) (columns : List Reader) (text : List ℕ) (rows : List (List Value)) (bad : BadRow) → HasRows format columns text rows → HasBadRow format columns text bad → ⊥
 rows-not_bad format columns text rows bad h b =
     let at = sooner format columns text b.rows b.line h.lines b.stands.after rows b.stands (one-lines (rule_of format) text _ _ h.cut b.stands.cut) h.typed in
     not-row format columns b.line bad.column bad.why at.0.0 b.reason at.0.1
 
-rows-not_many : (format : Format) (columns : List Column) (text : List ℕ) (rows : List (List Value)) → HasRows format columns text rows → HasTooMany format columns text → ⊥
+rows-not_many : (format : Format) (columns : List Reader) (text : List ℕ) (rows : List (List Value)) → HasRows format columns text rows → HasTooMany format columns text → ⊥
 rows-not_many format columns text rows h m =
     let at = sooner format columns text m.rows m.line h.lines m.stands.after rows m.stands (one-lines (rule_of format) text _ _ h.cut m.stands.cut) h.typed in
     absurd (omega (arith, at.1, m.full, h.few))
 
 -- a text with a bad row has not too many
-bad-not_many : (format : Format) (columns : List Column) (text : List ℕ) (bad : BadRow) → HasBadRow format columns text bad → HasTooMany format columns text → ⊥
+bad-not_many : (format : Format) (columns : List Reader) (text : List ℕ) (bad : BadRow) → HasBadRow format columns text bad → HasTooMany format columns text → ⊥
 bad-not_many format columns text bad b m = elim (places format columns text b.rows m.rows b.line m.line b.stands m.stands) [
   | Same p q ↦
       let same : b.rows ≡ m.rows = same-rows format columns m.stands.before b.rows m.rows (subst (λ (ls : List (List ℕ)). AreTypedRows format columns ls b.rows) p b.stands.typed) m.stands.typed in
@@ -172,7 +172,7 @@ bad-not_many format columns text bad b m = elim (places format columns text b.ro
 ]
 
 -- a text has one first bad row
-same-bad : (format : Format) (columns : List Column) (text : List ℕ) (bad other : BadRow) → HasBadRow format columns text bad → HasBadRow format columns text other → bad ≡ other
+same-bad : (format : Format) (columns : List Reader) (text : List ℕ) (bad other : BadRow) → HasBadRow format columns text bad → HasBadRow format columns text other → bad ≡ other
 same-bad format columns text bad other b c = elim (places format columns text b.rows c.rows b.line c.line b.stands c.stands) [
   | Same p q ↦
       let line : bad.line ≡ other.line = b.numbered ∙ ap (λ (ls : List (List ℕ)). length ls + 1) p ∙ sym c.numbered in
@@ -186,7 +186,7 @@ same-bad format columns text bad other b c = elim (places format columns text b.
       absurd (not-row format columns c.line other.column other.why at.0.0 c.reason at.0.1)
 ]
 
-pub one-decoding : (format : Format) (columns : List Column) (text : List ℕ) (answer other : Result (List (List Value)) DecodeFault) → Decodes format columns text answer → Decodes format columns text other → answer ≡ other
+pub one-decoding : (format : Format) (columns : List Reader) (text : List ℕ) (answer other : Result (List (List Value)) DecodeFault) → Decodes format columns text answer → Decodes format columns text other → answer ≡ other
 one-decoding format columns text (Ok rows) (Ok others) p q =
     let lines = one-lines (rule_of format) text p.lines q.lines p.cut q.cut in
     ap (λ (rs : List (List Value)). Ok rs) (same-rows format columns q.lines rows others (subst (λ (ls : List (List ℕ)). AreTypedRows format columns ls rows) lines p.typed) q.typed)

@@ -6,9 +6,10 @@ use Rattle.std.proofs.lemmas.Bool.{both_ways}
 use Rattle.dict_value.specs.declared.value.Field.{Field}
 use Rattle.dict_value.specs.declared.fault.LineFault.{LineFault}
 use Rattle.dict_value.specs.declared.fault.LineFault.TheVariants as fault
-use Rattle.row_text.specs.Letters.{backslash, letter_x}
+use Rattle.row_text.specs.declared.letters.TheConstants.{BACKSLASH, LETTER_X}
 use Rattle.row_text.specs.Marks.{Mark, bare, escaped, hex, IsBadEscape, IsMark, Spells, begins_with_digits, spelled}
-use Rattle.row_text.specs.TabRow.{Answers, GivenMemory, IsRow, ends_in_return, fields_of}
+use Rattle.dict_value.specs.Memory.{UnlessNoMemory}
+use Rattle.row_text.specs.TabRow.{TabAnswers, IsTabRow, ends_in_return, fields_of}
 
 -- nothing, or a bad escape: no mark stands in front
 abbrev Stuck : List ℕ → Type 0
@@ -22,11 +23,11 @@ not-stuck : (m : Mark) (rest : List ℕ) → IsMark m → Stuck (spelled m ++ re
 not-stuck (bare b) rest p (inl e) = cc
 not-stuck (escaped b) rest p (inl e) = cc
 not-stuck (hex h l) rest p (inl e) = cc
-not-stuck (bare b) rest p (inr (inl e)) = p (cons-parts b backslash rest [] e).0
+not-stuck (bare b) rest p (inr (inl e)) = p (cons-parts b BACKSLASH rest [] e).0
 not-stuck (escaped b) rest p (inr (inl e)) = cc
 not-stuck (hex h l) rest p (inr (inl e)) = cc
-not-stuck (bare b) rest p (inr (inr w)) = p (cons-parts b backslash rest _ w.1).0
-not-stuck (escaped b) rest p (inr (inr w)) = let q = cons-parts backslash backslash (b ∷ rest) (letter_x ∷ w.0) w.1 in p (cons-parts b letter_x rest w.0 q.1).0
+not-stuck (bare b) rest p (inr (inr w)) = p (cons-parts b BACKSLASH rest _ w.1).0
+not-stuck (escaped b) rest p (inr (inr w)) = let q = cons-parts BACKSLASH BACKSLASH (b ∷ rest) (LETTER_X ∷ w.0) w.1 in p (cons-parts b LETTER_X rest w.0 q.1).0
 not-stuck (hex h l) rest p (inr (inr w)) =
     let q : h ∷ l ∷ rest ≡ w.0 = cc w.1 in
     both_ways (begins_with_digits w.0) w.2 (subst (λ t. begins_with_digits t ≡ true) q (rw (p.0, p.1) refl))
@@ -34,13 +35,13 @@ not-stuck (hex h l) rest p (inr (inr w)) =
 -- two marks in front of one text are one mark
 same-mark : (m n : Mark) (s t : List ℕ) → IsMark m → IsMark n → spelled m ++ s ≡ spelled n ++ t → (m ≡ n) × (s ≡ t)
 same-mark (bare a) (bare b) s t p q e = (ap bare (cons-parts a b s t e).0, (cons-parts a b s t e).1)
-same-mark (bare a) (escaped b) s t p q e = absurd (p (cons-parts a backslash s (b ∷ t) e).0)
-same-mark (bare a) (hex h l) s t p q e = absurd (p (cons-parts a backslash s (letter_x ∷ h ∷ l ∷ t) e).0)
-same-mark (escaped a) (bare b) s t p q e = absurd (q (cons-parts b backslash t (a ∷ s) (sym e)).0)
-same-mark (escaped a) (escaped b) s t p q e = let r = cons-parts a b s t (cons-parts backslash backslash (a ∷ s) (b ∷ t) e).1 in (ap escaped r.0, r.1)
-same-mark (escaped a) (hex h l) s t p q e = let r = cons-parts a letter_x s (h ∷ l ∷ t) (cons-parts backslash backslash (a ∷ s) (letter_x ∷ h ∷ l ∷ t) e).1 in absurd (p r.0)
-same-mark (hex h l) (bare b) s t p q e = absurd (q (cons-parts b backslash t (letter_x ∷ h ∷ l ∷ s) (sym e)).0)
-same-mark (hex h l) (escaped b) s t p q e = let r = cons-parts letter_x b (h ∷ l ∷ s) t (cons-parts backslash backslash (letter_x ∷ h ∷ l ∷ s) (b ∷ t) e).1 in absurd (q (sym r.0))
+same-mark (bare a) (escaped b) s t p q e = absurd (p (cons-parts a BACKSLASH s (b ∷ t) e).0)
+same-mark (bare a) (hex h l) s t p q e = absurd (p (cons-parts a BACKSLASH s (LETTER_X ∷ h ∷ l ∷ t) e).0)
+same-mark (escaped a) (bare b) s t p q e = absurd (q (cons-parts b BACKSLASH t (a ∷ s) (sym e)).0)
+same-mark (escaped a) (escaped b) s t p q e = let r = cons-parts a b s t (cons-parts BACKSLASH BACKSLASH (a ∷ s) (b ∷ t) e).1 in (ap escaped r.0, r.1)
+same-mark (escaped a) (hex h l) s t p q e = let r = cons-parts a LETTER_X s (h ∷ l ∷ t) (cons-parts BACKSLASH BACKSLASH (a ∷ s) (LETTER_X ∷ h ∷ l ∷ t) e).1 in absurd (p r.0)
+same-mark (hex h l) (bare b) s t p q e = absurd (q (cons-parts b BACKSLASH t (LETTER_X ∷ h ∷ l ∷ s) (sym e)).0)
+same-mark (hex h l) (escaped b) s t p q e = let r = cons-parts LETTER_X b (h ∷ l ∷ s) t (cons-parts BACKSLASH BACKSLASH (LETTER_X ∷ h ∷ l ∷ s) (b ∷ t) e).1 in absurd (q (sym r.0))
 same-mark (hex h l) (hex i k) s t p q e =
     let r : (h ≡ i) × (l ≡ k) × (s ≡ t) = (cc, cc, cc) in
     (ap (λ (x : ℕ). hex x l) r.0 ∙ ap (λ (x : ℕ). hex i x) r.1, r.2)
@@ -92,11 +93,11 @@ one-end : (line : List ℕ) (ms ns : List Mark) → Spells line ms → Spells li
 one-end line ms ns p q open' shut = both_ways _ open' (ap ends_in_return (one-marks line ms ns p q) ∙ shut)
 
 -- the fields of a line
-pub one-row : (line : List ℕ) (f g : List Field) → IsRow line f → IsRow line g → f ≡ g
+pub one-row : (line : List ℕ) (f g : List Field) → IsTabRow line f → IsTabRow line g → f ≡ g
 one-row line f g p q = p.3 ∙ ap fields_of (one-marks line p.0 q.0 p.1 q.1) ∙ sym q.3
 
 -- the one answer
-pub one-answer : (line : List ℕ) (a b : Result (List Field) LineFault) → Answers line a → Answers line b → a ≡ b
+pub one-answer : (line : List ℕ) (a b : Result (List Field) LineFault) → TabAnswers line a → TabAnswers line b → a ≡ b
 one-answer line (Ok f) (Ok g) p q = ap (λ (t : List Field). Ok t) (one-row line f g p q)
 one-answer line (Ok f) (Err (fault.BadEscape j)) p q = absurd (no-bad line p.0 j q.0 p.1 q.1 q.2)
 one-answer line (Ok f) (Err fault.CarriageReturn) p q = absurd (one-end line p.0 q.0 p.1 q.1 p.2 q.2)
@@ -116,9 +117,6 @@ one-answer line (Err fault.NotOneRecord) b p q = absurd p
 one-answer line (Err fault.NoMemory) b p q = absurd p
 
 -- so what was answered is any other answer
-pub only-answer : (line : List ℕ) (r a : Result (List Field) LineFault) → GivenMemory r (Answers line r) → Answers line a → GivenMemory r (r ≡ a)
-only-answer line (Ok f) a p q = one-answer line (Ok f) a p q
-only-answer line (Err (fault.BadEscape i)) a p q = one-answer line (Err (fault.BadEscape i)) a p q
-only-answer line (Err fault.CarriageReturn) a p q = one-answer line (Err fault.CarriageReturn) a p q
-only-answer line (Err fault.NotOneRecord) a p q = absurd p
-only-answer line (Err fault.NoMemory) a p q = tt
+pub only-answer : (line : List ℕ) (r a : Result (List Field) LineFault) → UnlessNoMemory (Err fault.NoMemory) r (TabAnswers line r)
+    → TabAnswers line a → UnlessNoMemory (Err fault.NoMemory) r (r ≡ a)
+only-answer line r a p q = λ some. one-answer line r a (p some) q

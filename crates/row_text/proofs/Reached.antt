@@ -10,10 +10,11 @@ use Rattle.std.proofs.lemmas.List.Splits.{slice_split_at, slice_split_none}
 use Rattle.dict_value.specs.declared.value.Field.{Field}
 use Rattle.dict_value.specs.declared.fault.LineFault.{LineFault}
 use Rattle.dict_value.specs.declared.fault.LineFault.TheVariants as fault
-use Rattle.row_text.specs.Letters.{carriage_return, tab}
+use Rattle.row_text.specs.declared.letters.TheConstants.{CARRIAGE_RETURN, TAB}
 use Rattle.row_text.specs.Marks.{Mark, bare, IsBadEscape, Spells, meant}
-use Rattle.row_text.specs.TabRow.{Answers, GivenMemory, IsRow, ends_in_return, field_of, fields_of, is_tab}
-use Rattle.row_text.specs.TabSteps.{FieldOf, HasRead, IsPlain, Reaches, ReadsField}
+use Rattle.dict_value.specs.Memory.{UnlessNoMemory}
+use Rattle.row_text.specs.TabRow.{TabAnswers, IsTabRow, ends_in_return, field_of, fields_of, is_tab}
+use Rattle.row_text.specs.steps.TabSteps.{FieldOf, HasRead, IsPlain, Reaches, ReadsField}
 use Rattle.row_text.proofs.MarkLists.{all-append, ends-append, ends-append_cons, ends-append_true, run-ends, run-meant, run-spelled, run-untabbed, run-valid, spells-append, spells-nil}
 
 pub reach-start : (rest : List ℕ) → Reaches rest 0 []
@@ -40,10 +41,10 @@ pub meant-run : (text run : List ℕ) (ms : List Mark) → text ≡ map meant ms
 meant-run text run ms e = ap (λ (t : List ℕ). t ++ run) e ∙ ap (λ (t : List ℕ). map meant ms ++ t) (sym (run-meant run)) ∙ sym (map-append meant ms (map bare run))
 
 -- whether marks and a run end in a carriage return
-pub returns-run : (run : List ℕ) (ms : List Mark) (k : ℕ) → length run ≡ suc k → get_or run k 0 ≡ carriage_return → ends_in_return (ms ++ map bare run) ≡ true
+pub returns-run : (run : List ℕ) (ms : List Mark) (k : ℕ) → length run ≡ suc k → get_or run k 0 ≡ CARRIAGE_RETURN → ends_in_return (ms ++ map bare run) ≡ true
 returns-run run ms k e last = ends-append_true ms (map bare run) (run-ends run k e ∙ eq-eqb _ _ last)
 
-pub ends-run : (run : List ℕ) (ms : List Mark) → ends_in_return ms ≡ false → ((k : ℕ) → length run ≡ suc k → get_or run k 0 ≢ carriage_return) → ends_in_return (ms ++ map bare run) ≡ false
+pub ends-run : (run : List ℕ) (ms : List Mark) → ends_in_return ms ≡ false → ((k : ℕ) → length run ≡ suc k → get_or run k 0 ≢ CARRIAGE_RETURN) → ends_in_return (ms ++ map bare run) ≡ false
 ends-run [] ms p last = rw (append-nil ms) p
 ends-run (b ∷ run) ms p last = ends-append ms (map bare (b ∷ run)) p (run-ends (b ∷ run) (length run) refl ∙ ne_eqb _ _ (last (length run) refl))
 
@@ -52,8 +53,8 @@ pub read-none : (line : List ℕ) → HasRead line 0 [] []
 read-none line = record { within = omega arith; spells = spells-nil; last = refl; later = λ more. refl }
 
 -- the field that ends at a tab
-pub fields-tab : (ms more : List Mark) → AllByRecursion (λ m. is_tab m ≡ false) ms → fields_of (ms ++ bare tab ∷ more) ≡ field_of ms ∷ fields_of more
-fields-tab ms more untabbed = ap (λ (t : List (List Mark)). map field_of t) (slice_split_at is_tab ms (bare tab) more (All-from_recursion (λ m. is_tab m ≡ false) ms untabbed) refl)
+pub fields-tab : (ms more : List Mark) → AllByRecursion (λ m. is_tab m ≡ false) ms → fields_of (ms ++ bare TAB ∷ more) ≡ field_of ms ∷ fields_of more
+fields-tab ms more untabbed = ap (λ (t : List (List Mark)). map field_of t) (slice_split_at is_tab ms (bare TAB) more (All-from_recursion (λ m. is_tab m ≡ false) ms untabbed) refl)
 
 pub fields-last : (ms : List Mark) → AllByRecursion (λ m. is_tab m ≡ false) ms → fields_of ms ≡ field_of ms ∷ []
 fields-last ms untabbed = ap (λ (t : List (List Mark)). map field_of t) (slice_split_none is_tab ms (All-from_recursion (λ m. is_tab m ≡ false) ms untabbed))
@@ -93,12 +94,12 @@ run-last left size within k e =
     let lt : k < size = omega arith in
     (is, get_or-take size left k 0 lt ∙ ap (λ (i : ℕ). get_or left i 0) (omega arith))
 
-pub run-shuts : (left : List ℕ) (size : ℕ) (ms : List Mark) → size ≤ length left → 0 < size → get_or left (size - 1) 0 ≡ carriage_return → ends_in_return (ms ++ map bare (take size left)) ≡ true
+pub run-shuts : (left : List ℕ) (size : ℕ) (ms : List Mark) → size ≤ length left → 0 < size → get_or left (size - 1) 0 ≡ CARRIAGE_RETURN → ends_in_return (ms ++ map bare (take size left)) ≡ true
 run-shuts left size ms within some last =
     let long : length (take size left) ≡ suc (size - 1) = length-take-le size left within ∙ omega arith in
     returns-run (take size left) ms (size - 1) long ((run-last left size within (size - 1) long).1 ∙ last)
 
-pub run-opens : (left : List ℕ) (size : ℕ) (ms : List Mark) → size ≤ length left → ends_in_return ms ≡ false → (0 < size → get_or left (size - 1) 0 ≢ carriage_return)
+pub run-opens : (left : List ℕ) (size : ℕ) (ms : List Mark) → size ≤ length left → ends_in_return ms ≡ false → (0 < size → get_or left (size - 1) 0 ≢ CARRIAGE_RETURN)
     → ends_in_return (ms ++ map bare (take size left)) ≡ false
 run-opens left size ms within open' last =
     ends-run (take size left) ms open' (λ k e is. last (omega (arith, (run-last left size within k e).0)) (sym (run-last left size within k e).1 ∙ is))
@@ -119,27 +120,27 @@ line-more line at size fields ms ns p q =
 
 -- one more field, and the tab that ends it
 pub read-tab : (line : List ℕ) (at size : ℕ) (fields : List Field) (field : Field) (ms : List Mark) → HasRead line at fields ms → (found : FieldOf (suffix line at) field size) → at + size ≢ length line
-    → HasRead line (at + size + 1) (fields ++ field ∷ []) ((ms ++ found.0) ++ bare tab ∷ [])
+    → HasRead line (at + size + 1) (fields ++ field ∷ []) ((ms ++ found.0) ++ bare TAB ∷ [])
 read-tab line at size fields field ms p found more' =
     let long : length (suffix line at) ≡ length line - at = ap length (take_rest line at) ∙ length-drop at line in
     let lt : at + size < length line = omega (arith, p.within, found.1.within, more') in
-    let here : get_or line (at + size) 0 ≡ tab = sym (at-suffix line at size) ∙ found.3 (omega arith) in
+    let here : get_or line (at + size) 0 ≡ TAB = sym (at-suffix line at size) ∙ found.3 (omega arith) in
     let front = line-more line at size fields ms found.0 p found.1.spells in
-    let end : Spells (tab ∷ []) (bare tab ∷ []) = record { valid = ((λ e. cc e), tt); joined = refl } in
+    let end : Spells (TAB ∷ []) (bare TAB ∷ []) = record { valid = ((λ e. cc e), tt); joined = refl } in
     record {
       within = omega arith;
-      spells = rw (take_more line (at + size) 0 lt, here) (spells-append _ _ (ms ++ found.0) (bare tab ∷ []) front end);
-      last = ends-append_cons (ms ++ found.0) (bare tab) [];
+      spells = rw (take_more line (at + size) 0 lt, here) (spells-append _ _ (ms ++ found.0) (bare TAB ∷ []) front end);
+      last = ends-append_cons (ms ++ found.0) (bare TAB) [];
       later = λ more.
-          ap fields_of (append_assoc (ms ++ found.0) (bare tab ∷ []) more ∙ append_assoc ms found.0 (bare tab ∷ more))
-          ∙ p.later (found.0 ++ bare tab ∷ more)
+          ap fields_of (append_assoc (ms ++ found.0) (bare TAB ∷ []) more ∙ append_assoc ms found.0 (bare TAB ∷ more))
+          ∙ p.later (found.0 ++ bare TAB ∷ more)
           ∙ ap (λ (fs : List Field). fields ++ fs) (fields-tab found.0 more found.1.untabbed ∙ ap (λ (f : Field). f ∷ fields_of more) (sym found.2))
           ∙ sym (append_assoc fields (field ∷ []) (fields_of more));
     }
 
 -- the last field
 pub read-last : (line : List ℕ) (at size : ℕ) (fields : List Field) (field : Field) (ms : List Mark) → HasRead line at fields ms → FieldOf (suffix line at) field size → at + size ≡ length line
-    → IsRow line (fields ++ field ∷ [])
+    → IsTabRow line (fields ++ field ∷ [])
 read-last line at size fields field ms p found end =
     let long : length (suffix line at) ≡ length line - at = ap length (take_rest line at) ∙ length-drop at line in
     let front = line-more line at size fields ms found.0 p found.1.spells in (
@@ -150,14 +151,18 @@ read-last line at size fields field ms p found end =
     )
 
 -- a fault
-pub read-fault : (line : List ℕ) (at : ℕ) (fields : List Field) (ms : List Mark) (e : LineFault) → HasRead line at fields ms → ReadsField (suffix line at) at (Err e) → GivenMemory {A = List Field} (Err e) (Answers line (Err e))
-read-fault line at fields ms (fault.BadEscape place) p q =
+pub read-fault : (line : List ℕ) (at : ℕ) (fields : List Field) (ms : List Mark) (e : LineFault) → HasRead line at fields ms
+    → UnlessNoMemory {A = Result (Field × ℕ) LineFault} (Err fault.NoMemory) (Err e) (ReadsField (suffix line at) at (Err e))
+    → UnlessNoMemory {A = Result (List Field) LineFault} (Err fault.NoMemory) (Err e) (TabAnswers line (Err e))
+read-fault line at fields ms (fault.BadEscape place) p found _ =
+    let q = found (λ e. cc) in
     let front = line-more line at q.1 fields ms q.0 p q.3 in
     rw q.2 (ms ++ q.0, front, subst IsBadEscape (ap (drop q.1) (take_rest line at) ∙ drop-drop q.1 at line) q.4)
-read-fault line at fields ms fault.CarriageReturn p q =
+read-fault line at fields ms fault.CarriageReturn p found _ =
+    let q = found (λ e. cc) in
     let long : length (suffix line at) ≡ length line - at = ap length (take_rest line at) ∙ length-drop at line in
     let whole : Spells (take (length (suffix line at)) (suffix line at)) q.0 = rw (take_all (length (suffix line at)) (suffix line at) (omega arith)) q.1 in
     let front = line-more line at (length (suffix line at)) fields ms q.0 p whole in
     (ms ++ q.0, subst (λ (t : List ℕ). Spells t (ms ++ q.0)) (take_all (at + length (suffix line at)) line (omega (arith, p.within))) front, ends-append_true ms q.0 q.2)
-read-fault line at fields ms fault.NotOneRecord p q = absurd q
-read-fault line at fields ms fault.NoMemory p q = tt
+read-fault line at fields ms fault.NotOneRecord p found _ = absurd (found (λ e. cc))
+read-fault line at fields ms fault.NoMemory p found some = absurd (some refl)

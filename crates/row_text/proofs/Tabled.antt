@@ -12,8 +12,8 @@ use Rattle.row_text.specs.declared.cutter.CutRule.{CutRule}
 use Rattle.row_text.specs.declared.cutter.CutRule.TheVariants as rule
 use Rattle.row_text.specs.Cutting.{IsWhole, ended}
 use Rattle.row_text.specs.CsvRow.{BeginsWithMark, IsCsvRow, csv_fields, csv_line, csv_text, is_blank_line}
-use Rattle.row_text.specs.Letters.{carriage_return}
-use Rattle.row_text.specs.TabRow.{IsRow, row_line}
+use Rattle.row_text.specs.declared.letters.TheConstants.{CARRIAGE_RETURN}
+use Rattle.row_text.specs.TabRow.{IsTabRow, row_line}
 use Rattle.row_text.specs.Tables.{AreLines, IsCsvTable, IsTabTable, last_line}
 use Rattle.row_text.proofs.CsvReads.{one-csv_row}
 use Rattle.row_text.proofs.CsvWritten as csv
@@ -42,7 +42,7 @@ same-rows R one (line ∷ lines) (f ∷ fs) (g ∷ gs) p q =
 pub one-tab_table : (text : List ℕ) (table other : List (List Field)) → IsTabTable text table → IsTabTable text other → table ≡ other
 one-tab_table text table other (lines, are, rows) (lines', are', rows') =
     let same = one-lines rule.Tab text lines lines' are are' in
-    same-rows IsRow one-row lines' table other (subst (λ (ls : List (List ℕ)). AllZip IsRow ls table) same rows) rows'
+    same-rows IsTabRow one-row lines' table other (subst (λ (ls : List (List ℕ)). AllZip IsTabRow ls table) same rows) rows'
 
 pub one-csv_table : (text : List ℕ) (table other : List (List Field)) → IsCsvTable text table → IsCsvTable text other → table ≡ other
 one-csv_table text table other (lines, are, rows) (lines', are', rows') =
@@ -64,7 +64,7 @@ tab-table rows some = (map row_line rows, subst (λ (t : List ℕ). AreLines rul
     whole [] some = tt
     whole (row ∷ rows) some = (tab.row-whole row some.0, whole rows some.1)
 
-    read : (rows : List (List Field)) → AllByRecursion (λ row. row ≢ []) rows → AllZip IsRow (map row_line rows) rows
+    read : (rows : List (List Field)) → AllByRecursion (λ row. row ≢ []) rows → AllZip IsTabRow (map row_line rows) rows
     read [] some = tt
     read (row ∷ rows) some = (tab.row-again row some.0, read rows some.1)
 
@@ -73,15 +73,15 @@ blank-none : (line : List ℕ) → is_blank_line line ≡ true → next_record d
 unfolding next_record
 blank-none [] blank = refl
 blank-none (b ∷ line) blank =
-    let parts = and_parts (b == carriage_return) (is_blank_line line) blank in
-    rw (eqb-true b carriage_return parts.0) (blank-none line parts.1)
+    let parts = and_parts (b == CARRIAGE_RETURN) (is_blank_line line) blank in
+    rw (eqb-true b CARRIAGE_RETURN parts.0) (blank-none line parts.1)
 
 blank-strip : (line : List ℕ) → is_blank_line line ≡ true → strip_bom line ≡ line
 unfolding strip_bom
 blank-strip [] blank = refl
 blank-strip (a ∷ []) blank = refl
 blank-strip (a ∷ b ∷ []) blank = refl
-blank-strip (a ∷ b ∷ c ∷ rest) blank = rw (eqb-true a carriage_return (and_parts (a == carriage_return) (is_blank_line (b ∷ c ∷ rest)) blank).0) refl
+blank-strip (a ∷ b ∷ c ∷ rest) blank = rw (eqb-true a CARRIAGE_RETURN (and_parts (a == CARRIAGE_RETURN) (is_blank_line (b ∷ c ∷ rest)) blank).0) refl
 
 row-not_blank : (line : List ℕ) (fields : List Field) → IsCsvRow line fields → is_blank_line line ≡ false
 unfolding Reached

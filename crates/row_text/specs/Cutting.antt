@@ -1,22 +1,28 @@
 -- Where the rows of a text end.
-use Rattle.std.specs.Prelude.{◌≡◌, ◌⊎◌, ◌==◌, ◌%◌, ◌<◌, ◌∷◌, ◌++◌, [], Bool, true, false, ℕ, List, length, take, slice_index, count_by}
+use Rattle.std.specs.Prelude.{◌≡◌, ◌==◌, ◌%◌, ◌<◌, ◌∷◌, ◌++◌, [], Bool, true, false, ℕ}
+use Rattle.std.specs.Prelude.{List, length, take, slice_index, count_by}
 use Rattle.std.specs.List.{AllByRecursion, flat_map, suffix_len}
 use Rattle.row_text.specs.declared.cutter.CutRule.{CutRule}
 use Rattle.row_text.specs.declared.cutter.CutRule.TheVariants as rule
-use Rattle.row_text.specs.Letters.{backslash, double_quote, line_feed}
+use Rattle.row_text.specs.declared.letters.TheConstants.{BACKSLASH, DOUBLE_QUOTE, LINE_FEED}
 
 abbrev pub is_odd : ℕ → Bool
 is_odd n = (n % 2) == 1
 
--- whether a line feed that follows these bytes of a row belongs to the row: a backslash took it, or it stands between quotes
+-- Whether a line feed that follows these bytes of a row belongs to the row: a backslash took it, or it stands
+-- between quotes.
 unfoldable pub keeps_open : CutRule → List ℕ → Bool
 keeps_open rule.Plain row = false
-keeps_open rule.Tab row = is_odd (suffix_len (λ b. b == backslash) row)
-keeps_open rule.Csv row = is_odd (count_by (λ b. b == double_quote) row)
+keeps_open rule.Tab row = is_odd (suffix_len (λ b. b == BACKSLASH) row)
+keeps_open rule.Csv row = is_odd (count_by (λ b. b == DOUBLE_QUOTE) row)
+
+-- a line feed at this place of the row belongs to it
+abbrev pub KeepsFeed : CutRule → List ℕ → ℕ → Type 0
+KeepsFeed rule row place = slice_index row place ≡ LINE_FEED → keeps_open rule (take place row) ≡ true
 
 -- no line feed in these bytes of a row ends it
 abbrev pub IsOpen : CutRule → List ℕ → Type 0
-IsOpen rule row = (place : ℕ) → place < length row → slice_index row place ≡ line_feed → keeps_open rule (take place row) ≡ true
+IsOpen rule row = (place : ℕ) → place < length row → KeepsFeed rule row place
 
 -- a line feed behind these bytes ends a row, and none before it does
 pub record IsWhole (rule : CutRule) (row : List ℕ) : Type 0 where
@@ -25,11 +31,7 @@ pub record IsWhole (rule : CutRule) (row : List ℕ) : Type 0 where
 
 -- a row with the line feed that ends it
 abbrev pub ended : List ℕ → List ℕ
-ended row = row ++ line_feed ∷ []
-
--- the text begins with this line, and the rest stands behind its line feed; or it is this line without one
-abbrev pub BeginsWithLine : CutRule → List ℕ → List ℕ → List ℕ → Type 0
-BeginsWithLine rule text line rest = (IsWhole rule line × (text ≡ ended line ++ rest)) ⊎ (IsOpen rule line × (text ≡ line) × (rest ≡ []))
+ended row = row ++ LINE_FEED ∷ []
 
 -- the text is these whole rows, each with its line feed, and then bytes of a row that has not ended
 pub record Cuts (rule : CutRule) (text : List ℕ) (rows : List (List ℕ)) (rest : List ℕ) : Type 0 where
@@ -40,7 +42,3 @@ pub record Cuts (rule : CutRule) (text : List ℕ) (rows : List (List ℕ)) (res
 -- the text is these whole rows, and less than one more
 abbrev pub AreRows : CutRule → List ℕ → List (List ℕ) → Type 0
 AreRows rule text rows = (rest : List ℕ) × Cuts rule text rows rest
-
--- the text that comes in these pieces
-abbrev pub text_of : List (List ℕ) → List ℕ
-text_of pieces = flat_map (λ piece. piece) pieces

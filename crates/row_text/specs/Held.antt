@@ -4,7 +4,7 @@ use Rattle.row_text.specs.declared.cutter.CutRule.{CutRule}
 use Rattle.row_text.specs.declared.cutter.Cut.{Cut}
 use Rattle.row_text.specs.declared.cutter.Cut.TheVariants as cut
 use Rattle.row_text.specs.declared.cutter.Cutter.{Cutter}
-use Rattle.row_text.specs.Letters.{line_feed}
+use Rattle.row_text.specs.declared.letters.TheConstants.{LINE_FEED}
 use Rattle.row_text.specs.Cutting.{IsOpen, IsWhole, keeps_open}
 
 -- the cutter goes by this rule, and stands behind these bytes of a row
@@ -14,10 +14,15 @@ pub record Holds (rule : CutRule) (cutter : Cutter) (row : List ℕ) : Type 0 wh
   pub started : cutter.started ≡ nat_lt 0 (length row)
   pub inside : cutter.inside ≡ keeps_open rule row
 
+-- behind these bytes of a row, so many bytes of the piece end it, line feed included
+abbrev pub EndsRow : CutRule → List ℕ → List ℕ → ℕ → Type 0
+EndsRow rule row piece count =
+    (front tail : List ℕ) × (piece ≡ front ++ LINE_FEED ∷ tail) × (count ≡ length front + 1)
+    × IsWhole rule (row ++ front)
+
 -- what a cutter behind these bytes of a row answers to a piece, and where it stands then
 abbrev pub Feeds : CutRule → List ℕ → List ℕ → Cut → Cutter → Type 0
-Feeds rule row piece (cut.Row count) after =
-    (front tail : List ℕ) × (piece ≡ front ++ line_feed ∷ tail) × (count ≡ length front + 1) × IsWhole rule (row ++ front) × Holds rule after []
+Feeds rule row piece (cut.Row count) after = EndsRow rule row piece count × Holds rule after []
 Feeds rule row piece cut.More after = Holds rule after (row ++ piece)
 
 -- a row end is one of the piece's

@@ -1,12 +1,8 @@
-pub mod Letters
 pub mod Marks
 pub mod TabRow
-pub mod TabSteps
 pub mod CsvRow
-pub mod CsvSteps
 pub mod Cutting
 pub mod Held
-pub mod Found
 pub mod Tables
 pub mod Decoding
-pub mod DecodeSteps
+pub mod steps

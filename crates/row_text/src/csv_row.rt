@@ -1,26 +1,22 @@
 // Rows of CSV.
-ghost use Rattle.std.specs.Prelude.{◌≡◌, ◌≢◌, ◌≤◌, ◌++◌, [], ℕ, List, Result, length, map, option_map, take, IfOk, IfSome, OnErr, OnOk};
+ghost use Rattle.std.specs.Prelude.{◌≡◌, ◌≢◌, ◌≤◌, ◌++◌, [], ℕ, List, Result, Err, length, map, option_map, take};
+ghost use Rattle.std.specs.Prelude.{IfErr, IfOk, IfSome, OnErr, OnOk};
+ghost use Rattle.csv.specs.Reading.{error_kind};
 ghost use Rattle.csv.specs.Records.{fields_of};
 ghost use Rattle.dict_value.specs.declared.value.Field.{Field};
 ghost use Rattle.dict_value.specs.declared.value.Field.TheVariants as field;
 ghost use Rattle.dict_value.specs.declared.fault.LineFault.{LineFault};
 ghost use Rattle.row_text.specs.Cutting.{IsWhole, ended};
-ghost use Rattle.row_text.specs.CsvRow.{BeginsWithMark, CsvAnswers, IsCsvRow, csv_field, csv_fields, csv_line, csv_text, is_blank_line};
-ghost use Rattle.row_text.specs.CsvSteps.{IsPlainText, RecordOf};
-ghost use Rattle.row_text.specs.TabRow.{GivenMemory};
+ghost use Rattle.row_text.specs.CsvRow.{BeginsWithMark, CsvAnswers, IsCsvRow, csv_field, csv_fields, csv_line};
+ghost use Rattle.row_text.specs.CsvRow.{csv_text, is_blank_line};
+ghost use Rattle.row_text.specs.steps.CsvSteps.{IsPlainText, IsWantOfMemory, RecordOf};
+ghost use Rattle.dict_value.specs.Memory.{UnlessNoMemory};
 ghost use Rattle.row_text.specs.declared.cutter.CutRule.TheVariants as rule;
 
-use csv::{ByteRecord, Error, ReaderBuilder, WriterBuilder};
+use crate::letters::{CARRIAGE_RETURN, COMMA, DOUBLE_QUOTE, LINE_FEED};
+use csv::{ByteRecord, Error, ErrorKind, ReaderBuilder, WriterBuilder};
 use dict_value::{Bytes, Field, Fields, LineFault, ListOf, NoMemory};
 use std::alloc::Global;
-
-const COMMA: u8 = b',';
-
-const CARRIAGE_RETURN: u8 = b'\r';
-
-const LINE_FEED: u8 = b'\n';
-
-const DOUBLE_QUOTE: u8 = b'"';
 
 /// The first byte of a byte order mark.
 const MARK: u8 = 0xEF;
@@ -28,16 +24,16 @@ const MARK: u8 = 0xEF;
 /// The fields of one row, which comes without its line feed.
 pub fn read_csv_row(alloc: Global, line: &[u8]) -> Result<Fields, LineFault>
     // The fields where the line is one record, and else that it is not.
-    ensures exact { GivenMemory result (CsvAnswers line.now result) }
+    ensures exact { UnlessNoMemory (Err LineFault.NoMemory) result (CsvAnswers line.now result) }
     // There is no other answer to it.
     ensures only { (answer : Result (List Field) LineFault) → CsvAnswers line.now answer
-        → GivenMemory result (result ≡ answer) }
+        → UnlessNoMemory (Err LineFault.NoMemory) result (result ≡ answer) }
 {
     read_line(alloc, line)
 }
 
 fn read_line(alloc: Global, line: &[u8]) -> Result<Fields, LineFault>
-    ensures { GivenMemory result (CsvAnswers line.now result) }
+    ensures { UnlessNoMemory (Err LineFault.NoMemory) result (CsvAnswers line.now result) }
 {
     match split_plain(alloc, line) {
         Ok(Some(fields)) => Ok(fields),
@@ -85,10 +81,11 @@ fn plain_len(left: &[u8]) -> usize
 
 /// The fields of any row, by the reader of `csv`, which takes much longer to make than a short row to split.
 fn read_apart(alloc: Global, line: &[u8]) -> Result<Fields, LineFault>
-    ensures { GivenMemory result (CsvAnswers line.now result) }
+    ensures { UnlessNoMemory (Err LineFault.NoMemory) result (CsvAnswers line.now result) }
 {
-    let Ok(found) = one_record(alloc, line) else {
-        return Err(LineFault::NoMemory);
+    let found = match one_record(alloc, line) {
+        Ok(found) => found,
+        Err(error) => return Err(want_of_memory(error)),
     };
     let Some(record) = found else {
         return Err(LineFault::NotOneRecord);
@@ -99,9 +96,21 @@ fn read_apart(alloc: Global, line: &[u8]) -> Result<Fields, LineFault>
     }
 }
 
-/// The only record of a line. No other error than want of memory comes over bytes in memory.
+/// The fault of an error over bytes in memory, where `csv` has want of memory and no other.
+fn want_of_memory(error: Error) -> LineFault
+    requires { IsWantOfMemory (error_kind error) }
+    ensures { result ≡ LineFault.NoMemory }
+{
+    match error.into_kind() {
+        ErrorKind::OutOfMemory | ErrorKind::Io(_) => LineFault::NoMemory,
+        _ => unreachable!(),
+    }
+}
+
+/// The only record of a line. An error is want of memory: records may have any number of fields.
 fn one_record(alloc: Global, line: &[u8]) -> Result<Option<ByteRecord>, Error>
-    ensures { IfOk result (λ found. RecordOf line.now (option_map fields_of found)) }
+    ensures ok { IfOk result (λ found. RecordOf line.now (option_map fields_of found)) }
+    ensures err { IfErr result (λ error. IsWantOfMemory (error_kind error)) }
 {
     let mut reader = ReaderBuilder::new()
         .has_headers(false)
@@ -178,8 +187,11 @@ fn texts_of(alloc: Global, fields: &[Field]) -> Result<Vec<&[u8]>, NoMemory>
 }
 
 /// Whether a line has nothing but carriage returns, and so is no row.
-pub fn is_blank(line: &[u8]) -> bool
+pub fn is_blank_line(line: &[u8]) -> bool
     ensures { result ≡ is_blank_line line.now }
 {
     line.iter().all(|b| *b == CARRIAGE_RETURN)
 }
+
+#[cfg(test)]
+mod tests;

@@ -1,20 +1,15 @@
 // Rows cut out of a text that comes in pieces.
 ghost use Rattle.std.specs.Prelude.{◌≡◌, ◌↔◌, ◌∷◌, ◌++◌, [], ℕ, List, IfOk, IsTrue, OnOk};
-ghost use Rattle.std.specs.List.{AllByRecursion, flat_map};
-ghost use Rattle.row_text.specs.Cutting.{AreRows, IsOpen, IsWhole, ended, keeps_open, text_of};
-ghost use Rattle.row_text.specs.Cutting.{BeginsWithLine};
-ghost use Rattle.row_text.specs.Found.{Finds, IsWithin};
+ghost use Rattle.std.specs.List.{concat};
+ghost use Rattle.row_text.specs.Cutting.{AreRows, Cuts, IsOpen, keeps_open};
+ghost use Rattle.row_text.specs.Tables.{AreLines, last_line};
+ghost use Rattle.row_text.specs.steps.CutSteps.{BeginsWithLine, CutsPiece, Finds, IsWithin};
 ghost use Rattle.row_text.specs.Held.{Holds};
 ghost use Rattle.row_text.specs.declared.cutter.CutRule.{CutRule};
 
+use crate::letters::{BACKSLASH, DOUBLE_QUOTE, LINE_FEED};
 use dict_value::{Bytes, ListOf, NoMemory};
 use std::alloc::Global;
-
-const BACKSLASH: u8 = b'\\';
-
-const DOUBLE_QUOTE: u8 = b'"';
-
-const LINE_FEED: u8 = b'\n';
 
 /// Which line feeds end a row.
 #[derive(Clone, Copy, Debug, PartialEq, Eq)]
@@ -135,23 +130,31 @@ pub(crate) fn first_line(rule: CutRule, text: &[u8]) -> (&[u8], &[u8])
     }
 }
 
-/// The rows of a text that comes in these pieces, without their line feeds, up to its last row end.
-pub fn rows_of_pieces(
-    alloc: Global,
-    rule: CutRule,
-    pieces: &[Bytes],
-) -> Result<ListOf<Bytes>, NoMemory>
-    ensures rows { IfOk result (AreRows rule (text_of pieces.now)) }
+/// What a text is cut into.
+#[derive(Debug, Drop)]
+pub struct CutText {
+    /// Its rows, without their line feeds.
+    pub rows: ListOf<Bytes>,
+    /// The bytes behind its last row end: a row that lacks its line feed, where there are any.
+    pub rest: Bytes,
+}
+
+/// The rows of a text that comes in these pieces, and what stands behind its last row end.
+pub fn rows_of_pieces(alloc: Global, rule: CutRule, pieces: &[Bytes]) -> Result<CutText, NoMemory>
+    ensures rows { IfOk result (λ found. Cuts rule (concat pieces.now) found.rows found.rest) }
+    // The rows are all lines of the text only together with the rest: a last row may lack its line feed.
+    ensures lines { IfOk result (λ found. AreLines rule (concat pieces.now) (found.rows ++ last_line found.rest)) }
     // No other rows are the text's, so it doesn't matter how it was cut into pieces.
-    ensures only { IfOk result (λ rows. (others : List (List ℕ)) → AreRows rule (text_of pieces.now) others → rows ≡ others) }
+    ensures only { IfOk result (λ found. (others : List (List ℕ)) → AreRows rule (concat pieces.now) others
+        → found.rows ≡ others) }
 {
     let mut rows = ListOf::new(alloc);
-    let mut row = Bytes::new(alloc);
+    let mut rest = Bytes::new(alloc);
     let mut cutter = Cutter::new(rule);
     for piece in pieces {
-        cut_piece(alloc, &mut cutter, piece.as_slice(), &mut row, &mut rows)?;
+        cut_piece(alloc, &mut cutter, piece.as_slice(), &mut rest, &mut rows)?;
     }
-    Ok(rows)
+    Ok(CutText { rows, rest })
 }
 
 /// Adds the rows that end in a piece, and keeps what follows them.
@@ -162,9 +165,8 @@ fn cut_piece(
     row: &mut Bytes,
     rows: &mut ListOf<Bytes>,
 ) -> Result<(), NoMemory>
-    ensures { OnOk result ((rule : CutRule) → Holds rule cutter.old row.old → Holds rule cutter.new row.new
-        × ((more : List (List ℕ)) × (rows.new ≡ rows.old ++ more) × AllByRecursion (IsWhole rule) more
-        × (row.old ++ piece.now ≡ flat_map ended more ++ row.new))) }
+    ensures { OnOk result ((rule : CutRule) → Holds rule cutter.old row.old
+        → Holds rule cutter.new row.new × CutsPiece rule row.old rows.old piece.now row.new rows.new) }
 {
     let mut left = piece;
     while let Cut::Row(count) = cutter.feed(left) {
@@ -176,3 +178,6 @@ fn cut_piece(
     }
     row.extend(left)
 }
+
+#[cfg(test)]
+mod tests;

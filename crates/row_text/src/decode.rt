@@ -1,20 +1,17 @@
 // Whole texts, decoded row by row into values.
-ghost use Rattle.std.specs.Prelude.{◌≡◌, ◌<◌, ◌≤◌, List, length};
+ghost use Rattle.std.specs.Prelude.{◌≡◌, ◌<◌, ◌≤◌, Err, List, length};
 ghost use Rattle.dict_value.specs.declared.value.Format.{Format};
-ghost use Rattle.row_text.specs.Decoding.{Decodes, LineGives, UnlessNoMemory, is_row_line, most_rows, rule_of};
-ghost use Rattle.row_text.specs.DecodeSteps.{LineBrings, LineDecodes, TakeAll, column_fault, fault_at, row_fault};
-ghost use Rattle.row_text.specs.TabRow.{GivenMemory};
+ghost use Rattle.dict_value.specs.Memory.{UnlessNoMemory};
+ghost use Rattle.row_text.specs.Decoding.{Decodes, LineGives, is_row_line, rule_of};
+ghost use Rattle.row_text.specs.steps.DecodeSteps.{LineBrings, LineDecodes, TakeAll, column_fault, fault_at, row_fault};
 
-use crate::csv_row::{is_blank, read_csv_row};
+use crate::csv_row::{is_blank_line, read_csv_row};
 use crate::cutter::{CutRule, first_line};
 use crate::tab_row::read_fields;
 use dict_value::{
-    BadRow, BadValue, Field, Fields, Format, LineFault, ListOf, Row, Rows, Value, Why,
+    BadRow, BadValue, Field, Fields, Format, LineFault, ListOf, MOST_ROWS, Row, Rows, Value, Why,
 };
 use std::alloc::Global;
-
-/// The greatest number of rows of a version.
-const MOST_ROWS: usize = 4_194_304;
 
 /// Why a text has no rows.
 #[derive(Clone, Copy, Debug, PartialEq, Eq)]
@@ -29,10 +26,10 @@ pub enum DecodeFault {
 /// The columns of a table.
 pub trait Columns {
     ghost use Rattle.std.specs.Prelude.{◌≡◌, ◌<◌, List, Some, length, slice_get};
-    ghost use Rattle.row_text.specs.Decoding.{Column, Reads};
+    ghost use Rattle.row_text.specs.Decoding.{Reader, Reads};
 
     /// What each column makes of a field.
-    ghost columns: { Self → List Column };
+    ghost columns: { Self → List Reader };
 
     /// How many columns there are.
     fn count(&self) -> usize
@@ -41,7 +38,7 @@ pub trait Columns {
     /// What the column at a place makes of a field.
     fn read(&self, alloc: Global, place: usize, field: Field) -> Result<Value, BadValue>
         requires { place < length (columns self.now) }
-        ensures { (column : Column) → slice_get (columns self.now) place ≡ Some column → Reads column field result };
+        ensures { (column : Reader) → slice_get (columns self.now) place ≡ Some column → Reads column field result };
 }
 
 /// The typed rows of a whole text, or its first bad row, or that it has too many.
@@ -51,9 +48,10 @@ pub fn decode_rows<C: Columns>(
     columns: &C,
     text: &[u8],
 ) -> Result<Rows, DecodeFault>
-    requires bytes { length text.now ≤ 4294967295 }
-    requires columns { length (C.columns columns.now) ≤ 4294967295 }
-    ensures { UnlessNoMemory result (Decodes format (C.columns columns.now) text.now result) }
+    requires bytes { length text.now ≤ u32.MAX }
+    requires columns { length (C.columns columns.now) ≤ u32.MAX }
+    ensures { UnlessNoMemory (Err DecodeFault.NoMemory) result
+        (Decodes format (C.columns columns.now) text.now result) }
 {
     let rule = rule_for(format);
     let mut rows = ListOf::new(alloc);
@@ -87,10 +85,11 @@ fn take_line<C: Columns>(
     number: u32,
     rows: &mut Rows,
 ) -> Result<(), DecodeFault>
-    requires bytes { length line.now ≤ 4294967295 }
-    requires columns { length (C.columns columns.now) ≤ 4294967295 }
-    requires few { length rows.old ≤ most_rows }
-    ensures { LineBrings format (C.columns columns.now) line.now number rows.old result rows.new }
+    requires bytes { length line.now ≤ u32.MAX }
+    requires columns { length (C.columns columns.now) ≤ u32.MAX }
+    requires few { length rows.old ≤ MOST_ROWS }
+    ensures { UnlessNoMemory (Err DecodeFault.NoMemory) result
+        (LineBrings format (C.columns columns.now) line.now number rows.old result rows.new) }
 {
     if !is_row(format, line) {
         return Ok(());
@@ -113,7 +112,7 @@ fn is_row(format: Format, line: &[u8]) -> bool
 {
     match format {
         Format::Tab => true,
-        Format::Csv => !is_blank(line),
+        Format::Csv => !is_blank_line(line),
     }
 }
 
@@ -144,9 +143,10 @@ fn read_row<C: Columns>(
     columns: &C,
     line: &[u8],
 ) -> Result<Row, RowFault>
-    requires bytes { length line.now ≤ 4294967295 }
-    requires columns { length (C.columns columns.now) ≤ 4294967295 }
-    ensures { LineDecodes format (C.columns columns.now) line.now result }
+    requires bytes { length line.now ≤ u32.MAX }
+    requires columns { length (C.columns columns.now) ≤ u32.MAX }
+    ensures { UnlessNoMemory (Err RowFault.NoMemory) result
+        (LineDecodes format (C.columns columns.now) line.now result) }
 {
     let fields = match line_fields(alloc, format, line) {
         Ok(fields) => fields,
@@ -164,8 +164,8 @@ fn read_row<C: Columns>(
 
 /// The fields of a line.
 fn line_fields(alloc: Global, format: Format, line: &[u8]) -> Result<Fields, LineFault>
-    requires { length line.now ≤ 4294967295 }
-    ensures { GivenMemory result (LineGives format line.now result) }
+    requires { length line.now ≤ u32.MAX }
+    ensures { UnlessNoMemory (Err LineFault.NoMemory) result (LineGives format line.now result) }
 {
     match format {
         Format::Tab => read_fields(alloc, line),
@@ -188,7 +188,7 @@ fn of_line(fault: LineFault) -> RowFault
 
 /// A fault of the column at a place, from 0, as that of a row.
 fn of_column(place: usize, fault: BadValue) -> RowFault
-    requires { place < 4294967295 }
+    requires { place < u32.MAX }
     ensures { result ≡ column_fault place fault }
 {
     match fault {
@@ -203,8 +203,8 @@ fn of_column(place: usize, fault: BadValue) -> RowFault
 /// The values of as many fields as there are columns.
 fn read_values<C: Columns>(alloc: Global, columns: &C, fields: Fields) -> Result<Row, RowFault>
     requires count { length fields ≡ length (C.columns columns.now) }
-    requires columns { length (C.columns columns.now) ≤ 4294967295 }
-    ensures { TakeAll (C.columns columns.now) fields result }
+    requires columns { length (C.columns columns.now) ≤ u32.MAX }
+    ensures { UnlessNoMemory (Err RowFault.NoMemory) result (TakeAll (C.columns columns.now) fields result) }
 {
     let Ok(mut row) = ListOf::with_room(alloc, fields.len()) else {
         return Err(RowFault::NoMemory);
@@ -221,3 +221,6 @@ fn read_values<C: Columns>(alloc: Global, columns: &C, fields: Fields) -> Result
     }
     Ok(row)
 }
+
+#[cfg(test)]
+mod tests;

@@ -3,18 +3,26 @@ ghost use Rattle.std.specs.Prelude.{◌≡◌, ◌≢◌, [], ℕ, List, Result,
 ghost use Rattle.std.specs.List.{AllByRecursion, flat_map};
 ghost use Rattle.dict_value.specs.declared.value.Field.{Field};
 ghost use Rattle.dict_value.specs.declared.value.Format.{Format};
-ghost use Rattle.dict_value.specs.declared.value.Value.{Value};
+ghost use Rattle.dict_value.specs.declared.fault.LineFault.{LineFault};
 ghost use Rattle.row_text.specs.Cutting.{ended};
 ghost use Rattle.row_text.specs.CsvRow.{BeginsWithMark, csv_fields, csv_text};
-ghost use Rattle.row_text.specs.Decoding.{Column, Decodes};
+ghost use Rattle.row_text.specs.Decoding.{Decoded, Decodes, LineGives, Reader};
 ghost use Rattle.row_text.specs.TabRow.{row_line};
 ghost use Rattle.row_text.specs.Tables.{AreLines, IsCsvTable, IsTabTable};
 ghost use Rattle.row_text.specs.declared.cutter.CutRule.{CutRule};
-ghost use Rattle.row_text.specs.declared.decode.DecodeFault.{DecodeFault};
+
+/// A line has one answer: its fields, or its first fault.
+pub fn one_reading()
+    ensures some { (format : Format) (line : List ℕ) → (answer : Result (List Field) LineFault)
+        × LineGives format line answer }
+    ensures one { (format : Format) (line : List ℕ) (answer other : Result (List Field) LineFault)
+        → LineGives format line answer → LineGives format line other → answer ≡ other }
+{}
 
 /// A text has one list of lines.
 pub fn one_list_of_lines()
-    ensures { (rule : CutRule) (text : List ℕ) (lines others : List (List ℕ)) → AreLines rule text lines
+    ensures some { (rule : CutRule) (text : List ℕ) → (lines : List (List ℕ)) × AreLines rule text lines }
+    ensures one { (rule : CutRule) (text : List ℕ) (lines others : List (List ℕ)) → AreLines rule text lines
         → AreLines rule text others → lines ≡ others }
 {}
 
@@ -30,13 +38,19 @@ pub fn one_table()
 pub fn written_tables()
     ensures tab { (rows : List (List Field)) → AllByRecursion (λ row. row ≢ []) rows
         → IsTabTable (flat_map (λ row. ended (row_line row)) rows) rows }
-    // In CSV NULL comes back as a text, and a byte order mark at the front of a row does not come back.
+    // In CSV a NULL comes back as the text \N; and nothing is said of rows one of which begins with the bytes of a
+    // byte order mark, which do not come back.
     ensures csv { (rows : List (List Field)) → AllByRecursion (λ row. (row ≢ []) × (¬ BeginsWithMark row)) rows
         → IsCsvTable (flat_map csv_text rows) (map csv_fields rows) }
 {}
 
 /// A text decodes to one answer.
 pub fn one_decoding()
-    ensures { (format : Format) (columns : List Column) (text : List ℕ) (answer other : Result (List (List Value)) DecodeFault)
+    ensures some { (format : Format) (columns : List Reader) (text : List ℕ) → (answer : Decoded)
+        × Decodes format columns text answer }
+    ensures one { (format : Format) (columns : List Reader) (text : List ℕ) (answer other : Decoded)
         → Decodes format columns text answer → Decodes format columns text other → answer ≡ other }
 {}
+
+#[cfg(test)]
+mod tests;

@@ -1,40 +1,37 @@
 // Rows of TabSeparated text.
-ghost use Rattle.std.specs.Prelude.{◌≡◌, ◌≢◌, ◌≤◌, ◌<◌, ◌+◌, ◌⊎◌, ◌∷◌, ◌++◌, [], ℕ, List, Result, length, map, take, slice_index, IfSome, OnErr, OnOk};
+ghost use Rattle.std.specs.Prelude.{◌≡◌, ◌≢◌, ◌≤◌, ◌<◌, ◌+◌, ◌⊎◌, ◌∷◌, ◌++◌, [], ℕ, List, Result, Err};
+ghost use Rattle.std.specs.Prelude.{length, map, take, slice_index, IfSome, OnErr, OnOk};
 ghost use Rattle.std.specs.List.{AllByRecursion, flat_map};
 ghost use Rattle.dict_value.specs.declared.value.Field.{Field};
 ghost use Rattle.dict_value.specs.declared.value.Field.TheVariants as field;
 ghost use Rattle.dict_value.specs.declared.fault.LineFault.{LineFault};
 ghost use Rattle.row_text.specs.Cutting.{IsWhole, ended};
-ghost use Rattle.row_text.specs.Letters.{backslash, tab};
 ghost use Rattle.row_text.specs.Marks.{Mark, Spells, meant, unescaped as unescaped_of, hex_digit as hex_digit_of};
-ghost use Rattle.row_text.specs.TabRow.{Answers, GivenMemory, IsRow, field_of, field_text, row_line, written_byte, written_letter};
-ghost use Rattle.row_text.specs.TabSteps.{EscapeOf, IsPlain, ReadsField};
+ghost use Rattle.dict_value.specs.Memory.{UnlessNoMemory};
+ghost use Rattle.row_text.specs.TabRow.{TabAnswers, IsTabRow, field_of, field_text, row_line};
+ghost use Rattle.row_text.specs.TabRow.{written_byte, written_letter};
+ghost use Rattle.row_text.specs.steps.TabSteps.{EscapeOf, IsPlain, ReadsField};
 ghost use Rattle.row_text.specs.declared.cutter.CutRule.TheVariants as rule;
 
+use crate::letters::*;
 use dict_value::{Bytes, Field, Fields, LineFault, ListOf, NoMemory};
 use std::alloc::Global;
 
-const BACKSLASH: u8 = b'\\';
-
-const CARRIAGE_RETURN: u8 = b'\r';
-
-const TAB: u8 = b'\t';
-
 /// The fields of one row, which comes without its line feed.
 pub fn read_fields(alloc: Global, line: &[u8]) -> Result<Fields, LineFault>
-    requires { length line.now ≤ 4294967295 }
+    requires { length line.now ≤ u32.MAX }
     // The fields where the line is a row, and else its first fault.
-    ensures exact { GivenMemory result (Answers line.now result) }
+    ensures exact { UnlessNoMemory (Err LineFault.NoMemory) result (TabAnswers line.now result) }
     // There is no other answer to it.
-    ensures only { (answer : Result (List Field) LineFault) → Answers line.now answer
-        → GivenMemory result (result ≡ answer) }
+    ensures only { (answer : Result (List Field) LineFault) → TabAnswers line.now answer
+        → UnlessNoMemory (Err LineFault.NoMemory) result (result ≡ answer) }
 {
     read_line(alloc, line)
 }
 
 fn read_line(alloc: Global, line: &[u8]) -> Result<Fields, LineFault>
-    requires { length line.now ≤ 4294967295 }
-    ensures { GivenMemory result (Answers line.now result) }
+    requires { length line.now ≤ u32.MAX }
+    ensures { UnlessNoMemory (Err LineFault.NoMemory) result (TabAnswers line.now result) }
 {
     let mut fields = ListOf::new(alloc);
     let mut at = 0;
@@ -56,8 +53,8 @@ fn read_line(alloc: Global, line: &[u8]) -> Result<Fields, LineFault>
 
 /// The first field of a text and its size; the text stands at this place of its line.
 fn read_field(alloc: Global, rest: &[u8], start: usize) -> Result<(Field, usize), LineFault>
-    requires { start + length rest.now ≤ 4294967295 }
-    ensures { ReadsField rest.now start result }
+    requires { start + length rest.now ≤ u32.MAX }
+    ensures { UnlessNoMemory (Err LineFault.NoMemory) result (ReadsField rest.now start result) }
 {
     let mut text = Bytes::new(alloc);
     let mut at = 0;
@@ -92,7 +89,7 @@ fn run_len(rest: &[u8]) -> usize
     ensures within { result ≤ length rest.now }
     ensures plain { AllByRecursion IsPlain (take result rest.now) }
     ensures stops { result < length rest.now
-        → (slice_index rest.now result ≡ tab) ⊎ (slice_index rest.now result ≡ backslash) }
+        → (slice_index rest.now result ≡ TAB) ⊎ (slice_index rest.now result ≡ BACKSLASH) }
 {
     for (place, b) in rest.iter().enumerate() {
         if *b == TAB || *b == BACKSLASH {
@@ -106,7 +103,7 @@ fn run_len(rest: &[u8]) -> usize
 fn field_from(raw: &[u8], text: Bytes) -> Field
     ensures { (marks : List Mark) → Spells raw.now marks → text ≡ map meant marks → result ≡ field_of marks }
 {
-    if raw.len() == 2 && raw[0] == BACKSLASH && raw[1] == b'N' {
+    if raw.len() == 2 && raw[0] == BACKSLASH && raw[1] == CAPITAL_N {
         Field::Null
     } else {
         Field::Text(text)
@@ -115,7 +112,7 @@ fn field_from(raw: &[u8], text: Bytes) -> Field
 
 /// The byte that an escape stands for, and the escape's size.
 fn escape_of(rest: &[u8]) -> Option<(u8, usize)>
-    requires first { slice_index rest.now 0 ≡ backslash }
+    requires first { slice_index rest.now 0 ≡ BACKSLASH }
     requires some { 0 < length rest.now }
     ensures size { IfSome result (λ escape. (0 < escape.1) × (escape.1 ≤ length rest.now)) }
     ensures escape { EscapeOf rest.now result }
@@ -123,7 +120,7 @@ fn escape_of(rest: &[u8]) -> Option<(u8, usize)>
     if rest.len() < 2 {
         return None;
     }
-    if rest[1] != b'x' {
+    if rest[1] != LETTER_X {
         return Some((unescaped(rest[1]), 2));
     }
     if rest.len() < 4 {
@@ -142,9 +139,9 @@ fn hex_digit(b: u8) -> Option<u8>
     ensures small { IfSome result (λ v. v < 16) }
 {
     match b {
-        b'0'..=b'9' => Some(b - b'0'),
-        b'A'..=b'F' => Some(b - b'A' + 10),
-        b'a'..=b'f' => Some(b - b'a' + 10),
+        DIGIT_0..=DIGIT_9 => Some(b - DIGIT_0),
+        CAPITAL_A..=CAPITAL_F => Some(b - CAPITAL_A + 10),
+        LETTER_A..=LETTER_F => Some(b - LETTER_A + 10),
         _ => None,
     }
 }
@@ -155,14 +152,14 @@ fn unescaped(b: u8) -> u8
     ensures { result ≡ unescaped_of b }
 {
     match b {
-        b'b' => 8,
-        b'f' => 12,
-        b'r' => b'\r',
-        b'n' => b'\n',
-        b't' => b'\t',
-        b'0' => 0,
-        b'a' => 7,
-        b'v' => 11,
+        LETTER_B => BACKSPACE,
+        LETTER_F => FORM_FEED,
+        LETTER_R => CARRIAGE_RETURN,
+        LETTER_N => LINE_FEED,
+        LETTER_T => TAB,
+        DIGIT_0 => NUL,
+        LETTER_A => BELL,
+        LETTER_V => VERTICAL_TAB,
         _ => b,
     }
 }
@@ -174,7 +171,7 @@ pub fn write_row(fields: &[Field], out: &mut Bytes) -> Result<(), NoMemory>
     ensures err { OnErr result (out.new ≡ out.old) }
     // What is written is one whole row, which is read as these fields again.
     ensures whole { IsWhole rule.Tab (row_line fields.now) }
-    ensures again { IsRow (row_line fields.now) fields.now }
+    ensures again { IsTabRow (row_line fields.now) fields.now }
 {
     let before = out.len();
     let written = append_row(fields, out);
@@ -219,7 +216,7 @@ fn append_row(fields: &[Field], out: &mut Bytes) -> Result<(), NoMemory>
         }
         append_field(field, out)?;
     }
-    out.push(b'\n')
+    out.push(LINE_FEED)
 }
 
 fn append_field(field: &Field, out: &mut Bytes) -> Result<(), NoMemory>
@@ -251,14 +248,17 @@ fn escape_letter(b: u8) -> Option<u8>
     ensures { result ≡ written_letter b }
 {
     match b {
-        8 => Some(b'b'),
-        12 => Some(b'f'),
-        b'\r' => Some(b'r'),
-        b'\n' => Some(b'n'),
-        b'\t' => Some(b't'),
-        0 => Some(b'0'),
-        b'\'' => Some(b'\''),
+        BACKSPACE => Some(LETTER_B),
+        FORM_FEED => Some(LETTER_F),
+        CARRIAGE_RETURN => Some(LETTER_R),
+        LINE_FEED => Some(LETTER_N),
+        TAB => Some(LETTER_T),
+        NUL => Some(DIGIT_0),
+        SINGLE_QUOTE => Some(SINGLE_QUOTE),
         BACKSLASH => Some(BACKSLASH),
         _ => None,
     }
 }
+
+#[cfg(test)]
+mod tests;

@@ -1,5 +1,5 @@
 -- The values of a decoded row fit its columns.
-use Rattle.std.proofs.Common.{◌≡◌, ◌∷◌, [], Bool, true, false, List, Ok, length, map, refl, subst, arith}
+use Rattle.std.proofs.Common.{◌≡◌, ◌⊎◌, ◌∷◌, [], Bool, true, false, List, Ok, length, map, refl, sym, subst, inl, inr, arith}
 use Rattle.std.specs.List.{AllByRecursion, AllZip}
 use Rattle.dict_schema.specs.declared.definition.Role.{Role}
 use Rattle.dict_schema.specs.declared.definition.Role.TheVariants as role
@@ -35,35 +35,36 @@ never-null type.Ipv4 h A = absurd h
 never-null type.Ipv6 h A = absurd h
 never-null (type.Decimal digits scale) h A = absurd h
 
-typed-fits : (r : Role) (t : AttrType) (v : Value) → HasType t.base v → FitsRole r t v
-typed-fits r t Null h = never-null t.base h (FitsRole r t Null)
-typed-fits r t (U n) h = h
-typed-fits r t (I n) h = h
-typed-fits r t (S n) h = h
-typed-fits r t (Day n) h = h
-typed-fits r t (Second n) h = h
-typed-fits r t (Id n) h = h
-typed-fits r t (V4 n) h = h
-typed-fits r t (V6 n) h = h
-typed-fits r t (Dec n) h = h
-
 allowed-null : (r : Role) (t : AttrType) → t.nullable ≡ true → FitsRole r t Null
 allowed-null role.Start t h = refl
 allowed-null role.End t h = refl
 allowed-null role.Key t h = h
 allowed-null role.Attribute t h = h
 
+-- a value is Null, or fits a role wherever it has the type or fits the column
+by-role : (r : Role) (t : AttrType) (v : Value) → (v ≡ Null) ⊎ ((HasType t.base v → FitsRole r t v) × (FitsColumn t v → FitsRole r t v))
+by-role r t Null = inl refl
+by-role r t (U n) = inr ((λ h. h), (λ h. h))
+by-role r t (I n) = inr ((λ h. h), (λ h. h))
+by-role r t (S n) = inr ((λ h. h), (λ h. h))
+by-role r t (Day n) = inr ((λ h. h), (λ h. h))
+by-role r t (Second n) = inr ((λ h. h), (λ h. h))
+by-role r t (Id n) = inr ((λ h. h), (λ h. h))
+by-role r t (V4 n) = inr ((λ h. h), (λ h. h))
+by-role r t (V6 n) = inr ((λ h. h), (λ h. h))
+by-role r t (Dec n) = inr ((λ h. h), (λ h. h))
+
+typed-fits : (r : Role) (t : AttrType) (v : Value) → HasType t.base v → FitsRole r t v
+typed-fits r t v h = elim (by-role r t v) [
+  | inl none ↦ never-null t.base (subst (HasType t.base) none h) (FitsRole r t v)
+  | inr fits ↦ fits.0 h
+]
+
 column-fits : (r : Role) (t : AttrType) (v : Value) → FitsColumn t v → FitsRole r t v
-column-fits r t Null h = allowed-null r t h
-column-fits r t (U n) h = h
-column-fits r t (I n) h = h
-column-fits r t (S n) h = h
-column-fits r t (Day n) h = h
-column-fits r t (Second n) h = h
-column-fits r t (Id n) h = h
-column-fits r t (V4 n) h = h
-column-fits r t (V6 n) h = h
-column-fits r t (Dec n) h = h
+column-fits r t v h = elim (by-role r t v) [
+  | inl none ↦ subst (FitsRole r t) (sym none) (allowed-null r t (subst (FitsColumn t) none h))
+  | inr fits ↦ fits.1 h
+]
 
 -- what NULL becomes
 null-fits : (r : Role) (t : AttrType) (b : Bool) (default v : Value) → t.nullable ≡ b → FitsColumn t default → null_at r b default ≡ Ok v → FitsRole r t v

@@ -1,5 +1,6 @@
 -- Decoding by the columns that a definition wants.
-use Rattle.std.specs.Prelude.{◌-◌, ◌∷◌, ◌==◌, ◌&&◌, ◌||◌, [], if◌then◌else◌, Bool, false, ℕ, List, length, map, take, drop, Result, Ok, Err}
+use Rattle.std.specs.Prelude.{◌-◌, ◌∷◌, ◌==◌, ◌&&◌, ◌||◌, [], if◌then◌else◌, Bool, false, ℕ}
+use Rattle.std.specs.Prelude.{List, length, map, take, drop, Result, Ok, Err}
 use Rattle.std.specs.List.{prefix_len, suffix_len}
 use Rattle.dict_schema.specs.declared.definition.Role.{Role}
 use Rattle.dict_schema.specs.declared.definition.Role.TheVariants as role
@@ -16,16 +17,13 @@ use Rattle.dict_value.specs.declared.value.Format.TheVariants.{Csv}
 use Rattle.dict_value.specs.declared.value.Value.{Value}
 use Rattle.dict_value.specs.declared.value.Value.TheVariants.{Null}
 use Rattle.dict_value.specs.Values.{text_reading}
-use Rattle.row_text.specs.declared.decode.DecodeFault.{DecodeFault}
-use Rattle.row_text.specs.Decoding.{Column, Decodes}
-use Rattle.row_text.specs.Letters.{backslash, capital_n, tab}
-
-abbrev pub space : ℕ
-space = 32
+use Rattle.row_text.specs.Decoding.{Decoded, Decodes, Reader}
+use Rattle.rows_typed.specs.declared.columns.TheConstants.{SPACE}
+use Rattle.row_text.specs.declared.letters.TheConstants.{BACKSLASH, CAPITAL_N, TAB}
 
 -- a space or a tab
 abbrev pub is_blank_byte : ℕ → Bool
-is_blank_byte b = (b == space) || (b == tab)
+is_blank_byte b = (b == SPACE) || (b == TAB)
 
 -- a text without the blanks at its end
 abbrev pub without_end_blanks : List ℕ → List ℕ
@@ -37,15 +35,15 @@ without_blanks text = without_end_blanks (drop (prefix_len is_blank_byte text) t
 
 -- whether a text is \N
 abbrev pub is_null_text : List ℕ → Bool
-is_null_text (a ∷ b ∷ []) = (a == backslash) && (b == capital_n)
+is_null_text (a ∷ b ∷ []) = (a == BACKSLASH) && (b == CAPITAL_N)
 is_null_text _ = false
 
 -- a text of CSV as a field: \N is NULL
 abbrev pub null_or_text : List ℕ → Field
 null_or_text text = if is_null_text text then field.Null else field.Text text
 
--- The field that a type, nullable or not, sees of a text of CSV. A String keeps its blanks, and only a nullable one can be
--- NULL; at the other types blanks round the text are dropped.
+-- The field that a type, nullable or not, sees of a text of CSV. A String keeps its blanks, and only a nullable one can
+-- be NULL; at the other types blanks round the text are dropped.
 abbrev pub seen_text : ColType → Bool → List ℕ → Field
 seen_text type.Str nullable text = if nullable then null_or_text text else field.Text text
 seen_text _ nullable text = null_or_text (without_blanks text)
@@ -69,13 +67,13 @@ value_at column field.Null = null_at column.role column.ty.nullable column.defau
 value_at column (field.Text text) = text_reading column.ty.base text
 
 -- what a column makes of a field of this format
-abbrev pub column_by : Format → ShapeColumn → Column
+abbrev pub column_by : Format → ShapeColumn → Reader
 column_by format column field = value_at column (seen_field format column.ty field)
 
 -- the columns of a shape
-abbrev pub columns_of : Format → List ShapeColumn → List Column
+abbrev pub columns_of : Format → List ShapeColumn → List Reader
 columns_of format shape = map (column_by format) shape
 
 -- what a text decodes to by a shape
-abbrev pub Decode : List ShapeColumn → Format → List ℕ → Result (List (List Value)) DecodeFault → Type 0
+abbrev pub Decode : List ShapeColumn → Format → List ℕ → Decoded → Type 0
 Decode shape format text answer = Decodes format (columns_of format shape) text answer

@@ -6,7 +6,10 @@ ghost use Rattle.rows_typed.specs.Shapes.{is_blank_byte, is_null_text, column_by
 use dict_schema::{Role, ShapeColumn};
 use dict_value::{AttrType, BadValue, Bytes, ColType, Field, Format, Value, copy_value, read_text};
 use row_text::Columns;
+use row_text::letters::{BACKSLASH, CAPITAL_N, TAB};
 use std::alloc::Global;
+
+const SPACE: u8 = b' ';
 
 /// The columns of a shape, as they read a format.
 #[derive(Drop)]
@@ -97,7 +100,7 @@ fn csv_value(alloc: Global, column: &ShapeColumn, text: Bytes) -> Result<Value, 
 fn is_null_text(text: &[u8]) -> bool
     ensures { result ≡ is_null_text text.now }
 {
-    matches!(text, [b'\\', b'N'])
+    matches!(text, [BACKSLASH, CAPITAL_N])
 }
 
 /// The text without the blanks at its ends.
@@ -127,5 +130,5 @@ fn blanks_behind(text: &[u8]) -> usize
 fn is_blank_byte(byte: u8) -> bool
     ensures { result ≡ is_blank_byte byte }
 {
-    matches!(byte, b' ' | b'\t')
+    matches!(byte, SPACE | TAB)
 }

@@ -1,6 +1,6 @@
 // Whole texts as typed rows.
-ghost use Rattle.std.specs.Prelude.{◌≤◌, length};
-ghost use Rattle.row_text.specs.Decoding.{UnlessNoMemory};
+ghost use Rattle.std.specs.Prelude.{◌≤◌, Err, length};
+ghost use Rattle.dict_value.specs.Memory.{UnlessNoMemory};
 ghost use Rattle.rows_typed.specs.Shapes.{Decode};
 
 use crate::columns::ShapeColumns;
@@ -17,9 +17,9 @@ pub fn decode(
     format: Format,
     text: &[u8],
 ) -> Result<Rows, DecodeFault>
-    requires bytes { length text.now ≤ 4294967295 }
-    requires columns { length shape.now ≤ 4294967295 }
-    ensures { UnlessNoMemory result (Decode shape.now format text.now result) }
+    requires bytes { length text.now ≤ u32.MAX }
+    requires columns { length shape.now ≤ u32.MAX }
+    ensures { UnlessNoMemory (Err DecodeFault.NoMemory) result (Decode shape.now format text.now result) }
 {
     let columns = ShapeColumns {
         shape: shape.as_slice(),
@@ -27,3 +27,6 @@ pub fn decode(
     };
     decode_rows(alloc, format, &columns, text)
 }
+
+#[cfg(test)]
+mod tests;

@@ -8,8 +8,6 @@
 mod columns;
 mod decoding;
 pub mod laws;
-#[cfg(test)]
-mod tests;
 
 pub use decoding::decode;
 pub use laws::decoded_rows_fit;

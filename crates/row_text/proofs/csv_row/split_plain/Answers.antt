@@ -3,7 +3,7 @@ use Rattle.std.proofs.lemmas.Bool.{eqb-false}
 use Rattle.dict_value.specs.declared.value.Field.{Field}
 use Rattle.dict_value.specs.declared.value.Field.TheVariants as field
 use Rattle.row_text.specs.CsvRow.{IsCsvRow}
-use Rattle.row_text.specs.CsvSteps.{comma}
+use Rattle.row_text.specs.declared.letters.TheConstants.{COMMA}
 use Rattle.row_text.proofs.CsvPlain.{Splits, split-last, split-more, split-none}
 use Rattle.row_text.proofs.Reached.{suffix}
 use Rattle.row_text.proofs.csv_row.split_plain.Goals as goal
@@ -28,7 +28,7 @@ fields-preserved c =
     let run = c.plain_len-run.result in
     let lt : run < length left = omega (arith, c.plain_len-run.ensures.within, c.if-run-left-2.false) in
     let pushed : c.push.new.self ≡ c.fields.fields ++ field.Text (take run left) ∷ [] = c.in_ok-push.ensures.ok ∙ ap (λ (t : List ℕ). c.fields.fields ++ field.Text t ∷ []) c.in_ok-text.ensures in
-    let here : get_or left run 0 ≡ comma = elim c.else-run-left.branch [
+    let here : get_or left run 0 ≡ COMMA = elim c.else-run-left.branch [
       | else-run-left-via-then-run-left+else-left-run-ne-COMMA w ↦ w.if-left-run-ne-COMMA.false
       | else-run-left-via-else-run-left w ↦ absurd (omega (arith, lt, w.if-run-left.false))
     ] in (

@@ -9,12 +9,13 @@ pub loop-count-preserved : goal.loop-count-preserved
 loop-count-preserved c rule held =
     let before = c.loop-count.invariant rule held in
     let rows = before.1.0 in
-    let fed = c.in-Row.ensures.feeds rule c.loop-count.row before.0 in
+    let feeds = c.in-Row.ensures.feeds rule c.loop-count.row before.0 in
+    let fed = feeds.0 in
     let left = c.loop-count.left.now in
     let count = c.in-Row.count in
     let row = c.loop-count.row ++ fed.0 in
     let whole : c.in_ok-whole.whole ≡ row = c.in_ok-whole.ensures ∙ c.as_slice.ensures ∙ c.in_ok-extend.ensures.ok ∙ ap (λ (t : List ℕ). c.loop-count.row ++ t) (front-of left fed.0 fed.1 count fed.2 fed.3) in (
-      rw c.clear.ensures fed.5,
+      rw c.clear.ensures feeds.1,
       (
         rows ++ row ∷ [],
         c.in_ok-push.ensures.ok ∙ ap (λ (t : List ℕ). c.loop-count.rows ++ t ∷ []) whole ∙ ap (λ (ts : List (List ℕ)). ts ++ row ∷ []) before.1.1 ∙ append_assoc c.args.rows.now rows (row ∷ []),

@@ -6,7 +6,7 @@ use Rattle.row_text.proofs.cutter.rows_of_pieces.Given as goal
 
 abbrev pub invariant-loop-piece : goal.invariant-loop-piece
 invariant-loop-piece l = record {
-  held : Holds l.fn.rule l.cutter l.row;
+  held : Holds l.fn.rule l.cutter l.rest;
   whole : AllByRecursion (IsWhole l.fn.rule) l.rows;
-  joined : flat_map (λ (p : List ℕ). p) (take l.piece-index l.pieces) ≡ flat_map ended l.rows ++ l.row;
+  joined : flat_map (λ (p : List ℕ). p) (take l.piece-index l.pieces) ≡ flat_map ended l.rows ++ l.rest;
 }

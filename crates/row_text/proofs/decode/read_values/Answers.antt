@@ -4,8 +4,8 @@ use Rattle.std.specs.Vec.Iter.{into_iter_items}
 use Rattle.std.proofs.lemmas.List.{length-append}
 use Rattle.dict_value.specs.declared.value.Field.{Field}
 use Rattle.row_text.specs.declared.decode.RowFault.{RowFault}
-use Rattle.row_text.specs.DecodeSteps.{TakeAll, column_fault}
-use Rattle.row_text.proofs.Readings.{read-fault, read-more, readings-none}
+use Rattle.row_text.specs.steps.DecodeSteps.{TakeAll, column_fault}
+use Rattle.row_text.proofs.Readings.{Unless, read-fault, read-more, readings-none}
 use Rattle.row_text.proofs.decode.read_values.Goals as goal
 
 pub loop-field-init : goal.loop-field-init
@@ -22,7 +22,7 @@ returns-in-Err g c =
     let before = c.loop-field.invariant in
     let split = before.split ∙ ap (λ (t : List Field). c.loop-field.yielded ++ t) c.in-Some.ensures.steps.0 in
     let below : length c.loop-field.yielded < length columns = omega (arith, ap length split, c.requires.count, length-append c.loop-field.yielded (c.in-Some.field ∷ into_iter_items c.next.new.self)) in
-    subst (λ (fault : RowFault). TakeAll columns c.args.fields (Err fault)) (sym (c.of_column.ensures ∙ ap (λ (n : ℕ). column_fault n c.in-Err.fault) c.len-in-Err.ensures))
+    subst (λ (fault : RowFault). Unless fault (TakeAll columns c.args.fields (Err fault))) (sym (c.of_column.ensures ∙ ap (λ (n : ℕ). column_fault n c.in-Err.fault) c.len-in-Err.ensures))
     (read-fault columns c.args.fields c.loop-field.yielded c.in-Some.field (into_iter_items c.next.new.self) c.loop-field.row c.in-Err.fault split before.count below before.read
     (λ column here. c.in-Err.ensures column (ap (slice_get _) (c.len-in-loop-field.ensures ∙ before.count) ∙ here)))
 

@@ -1,5 +1,5 @@
 use Rattle.std.proofs.Common.{◌≢◌, ◌<◌, ◌-◌, ◌∙◌, ◌++◌, ◌∷◌, ◌+◌, [], get_or, sym, arith, map, take}
-use Rattle.row_text.specs.Letters.{carriage_return}
+use Rattle.row_text.specs.declared.letters.TheConstants.{CARRIAGE_RETURN}
 use Rattle.row_text.specs.Marks.{bare}
 use Rattle.row_text.proofs.MarkLists.{ends-append_cons}
 use Rattle.row_text.proofs.Reached.{at-suffix, bad-at, meant-mark, meant-run, on-ok, reach-mark, reach-plain, run-opens, run-shuts, suffix, whole-spells}
@@ -7,7 +7,7 @@ use Rattle.row_text.proofs.tab_row.read_field.Goals as goal
 use Rattle.row_text.proofs.tab_row.read_field.Goals.{else-run-gt0-via-then-run-gt0+else-left-run-eq-CARRIAGE_RETURN, else-run-gt0-via-else-run-gt0}
 
 pub returns-then-left-run-eq-CARRIAGE_RETURN : goal.returns-then-left-run-eq-CARRIAGE_RETURN
-returns-then-left-run-eq-CARRIAGE_RETURN c =
+returns-then-left-run-eq-CARRIAGE_RETURN c _ =
     let before = c.runs.invariant in
     let run = c.run_len-run in
     let reached = reach-plain c.args.rest.now c.runs.at run.result before.0 before.1 run.ensures.within run.ensures.plain in (
@@ -17,13 +17,13 @@ returns-then-left-run-eq-CARRIAGE_RETURN c =
     )
 
 pub returns-then-stop-rest : goal.returns-then-stop-rest
-returns-then-stop-rest c =
+returns-then-stop-rest c _ =
     let before = c.runs.invariant in
     let run = c.run_len-run in
     let left = suffix c.args.rest.now c.runs.at in
     let reached = reach-plain c.args.rest.now c.runs.at run.result before.0 before.1 run.ensures.within run.ensures.plain in
     let text = on-ok c.extend.result _ c.if-is_err.ensures.negation c.extend.ensures.ok ∙ meant-run c.runs.text (take run.result left) before.0 before.3 in
-    let last : 0 < run.result → get_or left (run.result - 1) 0 ≢ carriage_return = λ some. elim c.else-run-gt0.branch [
+    let last : 0 < run.result → get_or left (run.result - 1) 0 ≢ CARRIAGE_RETURN = λ some. elim c.else-run-gt0.branch [
       | else-run-gt0-via-then-run-gt0+else-left-run-eq-CARRIAGE_RETURN w ↦ w.if-left-run-eq-CARRIAGE_RETURN.false
       | else-run-gt0-via-else-run-gt0 w ↦ absurd (omega (arith, some, w.if-run-gt0.false))
     ] in (
@@ -35,7 +35,7 @@ returns-then-stop-rest c =
     )
 
 pub returns-then-left-run-eq-TAB : goal.returns-then-left-run-eq-TAB
-returns-then-left-run-eq-TAB c =
+returns-then-left-run-eq-TAB c _ =
     let before = c.runs.invariant in
     let run = c.run_len-run in
     let left = suffix c.args.rest.now c.runs.at in
@@ -49,7 +49,7 @@ returns-then-left-run-eq-TAB c =
     )
 
 pub returns-in_default : goal.returns-in_default
-returns-in_default c =
+returns-in_default c _ =
     let before = c.runs.invariant in
     let run = c.run_len-run in
     let reached = reach-plain c.args.rest.now c.runs.at run.result before.0 before.1 run.ensures.within run.ensures.plain in

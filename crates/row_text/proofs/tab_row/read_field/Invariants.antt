@@ -1,7 +1,7 @@
 use Rattle.std.proofs.Common.{◌≡◌, ◌-◌, List, false, length, map}
 use Rattle.row_text.specs.Marks.{Mark, meant}
 use Rattle.row_text.specs.TabRow.{ends_in_return}
-use Rattle.row_text.specs.TabSteps.{Reaches}
+use Rattle.row_text.specs.steps.TabSteps.{Reaches}
 use Rattle.row_text.proofs.tab_row.read_field.Given as goal
 
 abbrev pub invariant-runs : goal.invariant-runs

@@ -1,6 +1,6 @@
 use Rattle.std.proofs.Common.{◌-◌, List, length}
 use Rattle.row_text.specs.Marks.{Mark}
-use Rattle.row_text.specs.TabSteps.{HasRead}
+use Rattle.row_text.specs.steps.TabSteps.{HasRead}
 use Rattle.row_text.proofs.tab_row.read_line.Given as goal
 
 abbrev pub invariant-fields : goal.invariant-fields

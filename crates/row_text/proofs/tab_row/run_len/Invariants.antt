@@ -1,6 +1,6 @@
 use Rattle.std.proofs.Common.{take}
 use Rattle.std.specs.List.{AllByRecursion}
-use Rattle.row_text.specs.TabSteps.{IsPlain}
+use Rattle.row_text.specs.steps.TabSteps.{IsPlain}
 use Rattle.row_text.proofs.tab_row.run_len.Given as goal
 
 abbrev pub invariant-loop-place : goal.invariant-loop-place

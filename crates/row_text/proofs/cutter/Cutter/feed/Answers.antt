@@ -15,10 +15,12 @@ returns-in-Row-clause-feeds c by row held =
     let found = c.in-Row.ensures.finds row opened inside in
     let lt : i < length xs = found.0 in
     let le = length-take-le i xs (omega arith) in (
-      take i xs,
-      drop (i + 1) xs,
-      sym (take-append-drop i xs) ∙ ap (λ (t : List ℕ). take i xs ++ t) (drop_more xs i 0 lt ∙ ap (λ (b : ℕ). b ∷ drop (i + 1) xs) found.1),
-      rw le refl,
-      subst (λ (r : CutRule). IsWhole r (row ++ take i xs)) held.by_rule found.2,
+      (
+        take i xs,
+        drop (i + 1) xs,
+        sym (take-append-drop i xs) ∙ ap (λ (t : List ℕ). take i xs ++ t) (drop_more xs i 0 lt ∙ ap (λ (b : ℕ). b ∷ drop (i + 1) xs) found.1),
+        rw le refl,
+        subst (λ (r : CutRule). IsWhole r (row ++ take i xs)) held.by_rule found.2,
+      ),
       record { by_rule = held.by_rule; opened = open-nil by; started = refl; inside = sym (keeps_open-nil by) },
     )

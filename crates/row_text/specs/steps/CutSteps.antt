@@ -1,0 +1,30 @@
+-- Where the first row of a piece ends.
+use Rattle.std.specs.Prelude.{◌≡◌, ◌⊎◌, ◌<◌, ◌++◌, [], slice_index, ℕ, List, length, take}
+use Rattle.row_text.specs.declared.cutter.CutRule.{CutRule}
+use Rattle.row_text.specs.declared.cutter.Found.{Found}
+use Rattle.row_text.specs.declared.cutter.Found.TheVariants as found
+use Rattle.row_text.specs.declared.letters.TheConstants.{LINE_FEED}
+use Rattle.std.specs.List.{AllByRecursion, flat_map}
+use Rattle.row_text.specs.Cutting.{IsOpen, IsWhole, ended, keeps_open}
+
+-- the place is one of the piece's
+abbrev pub IsWithin : List ℕ → Found → Type 0
+IsWithin piece (found.Row place) = place < length piece
+IsWithin piece (found.Inside inside) = Unit {0}
+
+-- behind these bytes of a row
+abbrev pub Finds : CutRule → List ℕ → List ℕ → Found → Type 0
+Finds rule row piece (found.Row place) =
+    (place < length piece) × (slice_index piece place ≡ LINE_FEED) × IsWhole rule (row ++ take place piece)
+Finds rule row piece (found.Inside inside) = IsOpen rule (row ++ piece) × (inside ≡ keeps_open rule (row ++ piece))
+
+-- the text begins with this line, and the rest stands behind its line feed; or it is this line without one
+abbrev pub BeginsWithLine : CutRule → List ℕ → List ℕ → List ℕ → Type 0
+BeginsWithLine rule text line rest =
+    (IsWhole rule line × (text ≡ ended line ++ rest)) ⊎ (IsOpen rule line × (text ≡ line) × (rest ≡ []))
+
+-- the rows that end in a piece come to the others, and what stands behind them is the new front of a row
+abbrev pub CutsPiece : CutRule → List ℕ → List (List ℕ) → List ℕ → List ℕ → List (List ℕ) → Type 0
+CutsPiece rule row rows piece new_row new_rows =
+    (more : List (List ℕ)) × (new_rows ≡ rows ++ more) × AllByRecursion (IsWhole rule) more
+    × (row ++ piece ≡ flat_map ended more ++ new_row)

@@ -1,0 +1,10 @@
+use crate::{one_decoding, one_list_of_lines, one_reading, one_table, written_tables};
+
+#[test]
+fn laws() {
+    one_reading();
+    one_list_of_lines();
+    one_table();
+    one_decoding();
+    written_tables();
+}

@@ -1,0 +1,328 @@
+use crate::{DecodeFault, decode, decoded_rows_fit};
+use dict_schema::{Role, Shape, ShapeColumn};
+use dict_value::{AttrType, Bytes, ColType, Format, ListOf, MOST_ROWS, NoMemory, Row, Rows, Value};
+use std::alloc::Global;
+use std::test::Fail;
+
+/// A column's role and type, and whether it is nullable.
+type Kind = (Role, ColType, bool);
+
+const ID: Kind = (Role::Key, ColType::UInt64, false);
+
+const START: Kind = (Role::Start, ColType::UInt32, false);
+
+const END: Kind = (Role::End, ColType::UInt32, false);
+
+const TEXT: Kind = (Role::Attribute, ColType::Str, false);
+
+const MAYBE_TEXT: Kind = (Role::Attribute, ColType::Str, true);
+
+const MAYBE_BYTE: Kind = (Role::Attribute, ColType::UInt8, true);
+
+/// The columns of these kinds, each with the text `q` as its default.
+fn shape_of(alloc: Global, kinds: &[Kind]) -> Result<Shape, NoMemory> {
+    let mut shape = ListOf::new(alloc);
+    for (role, base, nullable) in kinds {
+        shape.push(ShapeColumn {
+            ty: AttrType {
+                base: *base,
+                nullable: *nullable,
+            },
+            role: *role,
+            default: Value::S(Bytes::copy_of(alloc, b"q")?),
+        })?;
+    }
+    Ok(shape)
+}
+
+/// What a text decodes to, by columns of these kinds; no test has one that is too long for it.
+fn decoded(
+    alloc: Global,
+    kinds: &[Kind],
+    format: Format,
+    text: &[u8],
+) -> Result<Rows, DecodeFault> {
+    let Ok(shape) = shape_of(alloc, kinds) else {
+        return Err(DecodeFault::NoMemory);
+    };
+    if shape.len() > u32::MAX as usize || text.len() > u32::MAX as usize {
+        return Err(DecodeFault::NoMemory);
+    }
+    decode(alloc, &shape, format, text)
+}
+
+/// The same as it is shown.
+fn shown(alloc: Global, kinds: &[Kind], format: Format, text: &[u8]) -> Result<Bytes, NoMemory> {
+    let mut out = Bytes::new(alloc);
+    show(alloc, decoded(alloc, kinds, format, text), &mut out)?;
+    Ok(out)
+}
+
+/// A bar before each value, a question mark for Null, and a semicolon behind each row; or the fault.
+fn show(alloc: Global, answer: Result<Rows, DecodeFault>, out: &mut Bytes) -> Result<(), NoMemory> {
+    let rows = match answer {
+        Ok(rows) => rows,
+        Err(DecodeFault::Bad(bad)) => {
+            let told = format!(in alloc; "row {} {} {:?}", bad.line, bad.column, bad.why);
+            return out.extend(told.map_err(|_| NoMemory)?.as_bytes());
+        }
+        Err(DecodeFault::TooMany | DecodeFault::NoMemory) => return Err(NoMemory),
+    };
+    for row in rows.as_slice() {
+        for value in row.as_slice() {
+            out.push(b'|')?;
+            show_value(alloc, value, out)?;
+        }
+        out.push(b';')?;
+    }
+    Ok(())
+}
+
+fn show_value(alloc: Global, value: &Value, out: &mut Bytes) -> Result<(), NoMemory> {
+    match value {
+        Value::Null => out.push(b'?'),
+        Value::S(text) => out.extend(text.as_slice()),
+        other => {
+            let shown = format!(in alloc; "{other:?}").map_err(|_| NoMemory)?;
+            out.extend(shown.as_bytes())
+        }
+    }
+}
+
+#[test]
+fn tab_texts(rt: HostRuntime) -> Result<(), Fail> {
+    let pair: &[Kind] = &[ID, TEXT];
+    let triple: &[Kind] = &[ID, TEXT, MAYBE_BYTE];
+    let cases: [(&[Kind], &[u8], &[u8]); 14] = [
+        (triple, b"1\ta\n", b"row 1 0 FieldCount(2)"),
+        (triple, b"1\ta\t300\n", b"row 1 3 Value(OutOfRange)"),
+        (triple, b"1\ta\t1\nx\ta\t1\n", b"row 2 1 Value(NotANumber)"),
+        (triple, b"1\t\\N\t\\N\n", b"|U(1)|q|?;"),
+        (triple, b"\\N\ta\t1\n", b"row 1 1 Value(NullNotAllowed)"),
+        (triple, b"1\ta\\x4\t1\n", b"row 1 0 Escape(3)"),
+        (triple, b"", b""),
+        (
+            &[ID, TEXT, MAYBE_TEXT],
+            b"1\ta\\tb\t\\N\n2\t\\N\t\\x41\n",
+            b"|U(1)|a\tb|?;|U(2)|q|A;",
+        ),
+        (pair, b"1\ta", b"|U(1)|a;"),
+        (pair, b"1\ta\r\n", b"row 1 0 CarriageReturn"),
+        (pair, b"1\ta\\\\\n", b"|U(1)|a\\;"),
+        (pair, b"1\t a\n 1\ta\n", b"row 2 1 Value(NotANumber)"),
+        (
+            &[ID, START, END],
+            b"1\t\\N\t2\n1\t3\t\\N\n",
+            b"|U(1)|?|U(2);|U(1)|U(3)|?;",
+        ),
+        (&[], b"1\n", b"row 1 0 FieldCount(1)"),
+    ];
+    for (kinds, text, wanted) in cases {
+        let out = shown(rt.alloc(), kinds, Format::Tab, text)?;
+        assert_eq!(rt; out.as_slice(), wanted);
+    }
+    Ok(())
+}
+
+#[test]
+fn csv_texts(rt: HostRuntime) -> Result<(), Fail> {
+    let pair: &[Kind] = &[ID, TEXT];
+    let cases: [(&[Kind], &[u8], &[u8]); 7] = [
+        (
+            pair,
+            b"1,\"a\nb\"\"c\"\r\n\r\n2,z\n",
+            b"|U(1)|a\nb\"c;|U(2)|z;",
+        ),
+        (
+            pair,
+            b"1,\"a\nb\"\"c\"\r\n\r\nz,z\n",
+            b"row 3 1 Value(NotANumber)",
+        ),
+        (pair, b" 1\t, a \n", b"|U(1)| a ;"),
+        (pair, b"1,\\N\n", b"|U(1)|\\N;"),
+        (
+            &[ID, MAYBE_TEXT],
+            b"1,\\N\n2, \\N\n",
+            b"|U(1)|?;|U(2)| \\N;",
+        ),
+        (
+            &[ID, MAYBE_BYTE],
+            b"1, \\N\n\\N,1\n",
+            b"row 2 1 Value(NullNotAllowed)",
+        ),
+        (
+            &[ID, START, END],
+            b"1,\\N ,2\n1,3,\\N\n",
+            b"|U(1)|?|U(2);|U(1)|U(3)|?;",
+        ),
+    ];
+    for (kinds, text, wanted) in cases {
+        let out = shown(rt.alloc(), kinds, Format::Csv, text)?;
+        assert_eq!(rt; out.as_slice(), wanted);
+    }
+    decoded_rows_fit();
+    Ok(())
+}
+
+/// A value's text of each type, and how the value is shown.
+const TYPES: [(ColType, &[u8], &[u8]); 15] = [
+    (ColType::UInt8, b"255", b"U(255)"),
+    (ColType::UInt16, b"65535", b"U(65535)"),
+    (ColType::UInt32, b"4294967295", b"U(4294967295)"),
+    (
+        ColType::UInt64,
+        b"18446744073709551615",
+        b"U(18446744073709551615)",
+    ),
+    (ColType::Int8, b"-128", b"I(-128)"),
+    (ColType::Int16, b"-32768", b"I(-32768)"),
+    (ColType::Int32, b"-2147483648", b"I(-2147483648)"),
+    (
+        ColType::Int64,
+        b"-9223372036854775808",
+        b"I(-9223372036854775808)",
+    ),
+    (ColType::Str, b"ab", b"ab"),
+    (ColType::Date, b"2149-06-06", b"Day(65535)"),
+    (
+        ColType::DateTime,
+        b"2106-02-07 06:28:15",
+        b"Second(4294967295)",
+    ),
+    (
+        ColType::Uuid,
+        b"00000000-0000-0000-0000-0000000000ff",
+        b"Id(255)",
+    ),
+    (ColType::Ipv4, b"255.255.255.255", b"V4(4294967295)"),
+    (ColType::Ipv6, b"::ff", b"V6(255)"),
+    (ColType::Decimal(38, 1), b"-1.5", b"Dec(-15)"),
+];
+
+const ROLES: [Role; 4] = [Role::Key, Role::Start, Role::End, Role::Attribute];
+
+/// What NULL is at a column, whose default is the text `q`.
+fn null_shown(kind: Kind, format: Format) -> &'static [u8] {
+    match kind {
+        (_, ColType::Str, false) if format == Format::Csv => b"|\\N;",
+        (Role::Start | Role::End, _, _) => b"|?;",
+        (_, _, true) => b"|?;",
+        (Role::Key, _, false) => b"row 1 1 Value(NullNotAllowed)",
+        (Role::Attribute, _, false) => b"|q;",
+    }
+}
+
+#[test]
+fn each_type_and_role(rt: HostRuntime) -> Result<(), Fail> {
+    for (base, text, value) in TYPES {
+        let mut wanted = Bytes::copy_of(rt.alloc(), b"|")?;
+        wanted.extend(value)?;
+        wanted.push(b';')?;
+        for role in ROLES {
+            for nullable in [false, true] {
+                for format in [Format::Tab, Format::Csv] {
+                    let kind = (role, base, nullable);
+                    let out = shown(rt.alloc(), &[kind], format, text)?;
+                    assert_eq!(rt; out.as_slice(), wanted.as_slice());
+                    let out = shown(rt.alloc(), &[kind], format, b"\\N\n")?;
+                    assert_eq!(rt; out.as_slice(), null_shown(kind, format));
+                }
+            }
+        }
+    }
+    Ok(())
+}
+
+/// A text of so many of these lines.
+fn lines(alloc: Global, line: &[u8], count: usize) -> Result<Bytes, NoMemory> {
+    let mut text = Bytes::new(alloc);
+    for _ in 0..count {
+        text.extend(line)?;
+    }
+    Ok(text)
+}
+
+/// The row has the greatest number and ten letters.
+fn is_pair(row: &Row) -> bool {
+    match row.as_slice() {
+        [Value::U(id), Value::S(text)] => {
+            *id == u64::MAX && text.as_slice() == b"abcdefghij".as_slice()
+        }
+        _ => false,
+    }
+}
+
+#[test]
+fn a_million_rows(rt: HostRuntime) -> Result<(), Fail> {
+    let cases: [(Format, &[u8]); 2] = [
+        (Format::Tab, b"18446744073709551615\tabcdefghij\n"),
+        (Format::Csv, b"18446744073709551615,abcdefghij\n"),
+    ];
+    for (format, line) in cases {
+        let text = lines(rt.alloc(), line, 1_000_000)?;
+        let Ok(rows) = decoded(rt.alloc(), &[ID, TEXT], format, text.as_slice()) else {
+            return Err(Fail::from("there is memory for a million rows"));
+        };
+        assert_eq!(rt; rows.len(), 1_000_000);
+        assert!(rt; rows.as_slice().iter().all(|row| is_pair(row)));
+    }
+    Ok(())
+}
+
+/// The number of a text's rows, or that they are too many.
+fn row_count(answer: Result<Rows, DecodeFault>) -> Result<Option<usize>, Fail> {
+    match answer {
+        Ok(rows) => Ok(Some(rows.len())),
+        Err(DecodeFault::TooMany) => Ok(None),
+        Err(DecodeFault::Bad(_)) => Err(Fail::from("each line is a row")),
+        Err(DecodeFault::NoMemory) => Err(Fail::from("there is memory for all rows")),
+    }
+}
+
+#[test]
+fn too_many_rows(rt: HostRuntime) -> Result<(), Fail> {
+    for format in [Format::Tab, Format::Csv] {
+        let mut text = lines(rt.alloc(), b"7\n", MOST_ROWS)?;
+        let full = row_count(decoded(rt.alloc(), &[MAYBE_BYTE], format, text.as_slice()))?;
+        assert_eq!(rt; full, Some(4_194_304));
+        text.extend(b"x\n")?;
+        let more = row_count(decoded(rt.alloc(), &[MAYBE_BYTE], format, text.as_slice()))?;
+        assert_eq!(rt; more, None);
+    }
+    Ok(())
+}
+
+#[test]
+fn long_texts(rt: HostRuntime) -> Result<(), Fail> {
+    for count in [1_001, 65_537, 16_777_216] {
+        let text = lines(rt.alloc(), b"x", count)?;
+        let mut wanted = Bytes::copy_of(rt.alloc(), b"|")?;
+        wanted.extend(text.as_slice())?;
+        wanted.push(b';')?;
+        for format in [Format::Tab, Format::Csv] {
+            let out = shown(rt.alloc(), &[TEXT], format, text.as_slice())?;
+            assert!(rt; out.is_same(&wanted));
+        }
+    }
+    Ok(())
+}
+
+#[test]
+fn greatest_values(rt: HostRuntime) -> Result<(), Fail> {
+    let kinds: &[Kind] = &[
+        ID,
+        (Role::Attribute, ColType::Date, false),
+        (Role::Attribute, ColType::DateTime, false),
+        (Role::Attribute, ColType::Decimal(5, 2), false),
+        (Role::Attribute, ColType::Ipv6, false),
+    ];
+    let line = b"1\t2149-06-06\t2106-02-07 06:28:15\t-1.50\t2001:DB8:0:0:0:0:0:1\n";
+    let out = shown(rt.alloc(), kinds, Format::Tab, line)?;
+    let wanted =
+        b"|U(1)|Day(65535)|Second(4294967295)|Dec(-150)|V6(42540766411282592856903984951653826561);";
+    assert_eq!(rt; out.as_slice(), wanted.as_slice());
+    let late = b"1\t2149-06-07\t2106-02-07 06:28:15\t-1.50\t2001:DB8:0:0:0:0:0:1\n";
+    let out = shown(rt.alloc(), kinds, Format::Tab, late)?;
+    assert_eq!(rt; out.as_slice(), b"row 1 2 Value(OutOfRange)".as_slice());
+    Ok(())
+}
