@@ -9,8 +9,6 @@ pub mod memory;
 pub mod outside;
 pub mod real;
 pub mod shelf;
-#[cfg(test)]
-mod tests;
 
 pub use memory::{MemoryClock, MemorySink, MemorySource};
 pub use outside::{
