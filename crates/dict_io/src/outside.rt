@@ -1,7 +1,7 @@
 // What the program meets, as traits.
 ghost use Rattle.std.specs.Prelude.{◌≡◌, ◌<◌, ◌≤◌, ℕ, List, length, Bool, Option, false, IsErr, IsErrOf};
-ghost use Rattle.dict_io.specs.Outside.{count_up, HasCause, GotGives, GotWithin, is_end, NextMoment, PutGives, PutWithin};
-ghost use Rattle.dict_io.specs.Outside.{ReadsFile, Side, WritesPrefix};
+ghost use Rattle.dict_io.specs.Outside.{count_up, HasCause, GotGives, GotWithin, is_end, PutGives, PutWithin, Side};
+ghost use Rattle.dict_io.specs.Outside.{NextMoment, ReadsFile, WritesPrefix};
 
 use dict_value::Bytes;
 use thiserror::Error;
