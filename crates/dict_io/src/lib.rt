@@ -15,5 +15,5 @@ pub use memory::{MemoryClock, MemorySink, MemorySource};
 pub use outside::{
     Clock, Failed, Got, LAST_MOMENT, Put, Shelf, ShelfFault, Sink, Source, write_all,
 };
-pub use real::{FileShelf, StdSink, StdSource, SystemClock};
+pub use real::{FileShelf, StdSink, StdSource, SystemClock, read_from, write_to};
 pub use shelf::{MemoryShelf, NamedFile};
