@@ -14,7 +14,8 @@ use Rattle.dictd.specs.Inputs.{EndsInput, IsTextOf}
 use Rattle.dictd.specs.Loads.{State, Loads}
 use Rattle.dictd.specs.ThinRows.{Table}
 use Rattle.dictd.specs.Sessions.{Serves, ServesFront, ServesInput}
-use Rattle.dictd.specs.OneRun.{Outside, Ran, HaveOrigin, RunsTo, RunsToFront, ServesRun, status_after, Tells}
+use Rattle.dictd.specs.OneRun.{Outside, Ran, HaveOrigin, RunsTo, RunsToFront, ServesRun, status_after}
+use Rattle.dictd.specs.Statuses.{Tells}
 
 -- the load of a dictionary that was just made
 pub first-load : (versions : List Table) (core : DictCore) (before : Outside) (first : LoadEnd) (loaded : State) → versions ≡ [] → core ≡ empty_core → Loads (record { versions = versions; core = core; scripts = before.scripts }) first loaded → Loads (record { versions = []; core = empty_core; scripts = before.scripts }) first loaded

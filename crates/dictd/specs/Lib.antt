@@ -8,3 +8,4 @@ pub mod Requests
 pub mod Sessions
 pub mod ThinRows
 pub mod ThinText
+pub mod Statuses

@@ -6,8 +6,8 @@ use Rattle.dictd.specs.declared.thin.ThinDefinition.{ThinDefinition}
 use Rattle.dictd.specs.declared.ending.LoadEnd.{LoadEnd}
 use Rattle.dictd.specs.declared.input.InputEnd.{InputEnd}
 use Rattle.dictd.specs.declared.input.InputEnd.TheVariants.{Ended, Failed, TooLong}
-use Rattle.dictd.specs.declared.once.Status.{Status}
-use Rattle.dictd.specs.declared.once.Status.TheVariants.{Done, Usage, DefsUnread, DefsRefused, ReadFault, WriteFault, LineTooLong, DefsTooLong, NoMemory}
+use Rattle.dictd.specs.declared.status.Status.{Status}
+use Rattle.dictd.specs.declared.status.Status.TheVariants.{Done, Usage, DefsUnread, DefsRefused, ReadFault, WriteFault, LineTooLong, DefsTooLong, NoMemory}
 use Rattle.dict_io.specs.declared.outside.Failed.{Failed as WriteFailed}
 use Rattle.dictd.specs.CommandLine.{IsOnce}
 use Rattle.dictd.specs.ThinText.{Defines}
@@ -145,22 +145,3 @@ OnceRun words file ran before after DefsUnread = ((name : List ℕ) × IsOnce wo
 OnceRun words file ran before after DefsRefused = IsRefusedFile words file × (after ≡ before)
 OnceRun words file ran before after DefsTooLong = ((name : List ℕ) × IsOnce words name × IsLongFile (file name)) × (after ≡ before)
 OnceRun words file ran before after NoMemory = (((name : List ℕ) × IsOnce words name) × (after ≡ before)) ⊎ RunsFile words file ran before after NoMemory
-
--- the text that a status is told by
-abbrev pub status_text : Status → List ℕ
-status_text Done = []
-status_text Usage = codes "usage: dictd once DEFS SEED | dictd serve DEFS ADDR WORKERS SEED | dictd demo N SEED" ++ 10 ∷ []
-status_text DefsUnread = codes "cannot read definitions" ++ 10 ∷ []
-status_text DefsRefused = codes "definitions line 1 byte 0: unsupported" ++ 10 ∷ []
-status_text ReadFault = codes "read failed" ++ 10 ∷ []
-status_text WriteFault = codes "write failed" ++ 10 ∷ []
-status_text LineTooLong = codes "line too long" ++ 10 ∷ []
-status_text DefsTooLong = codes "definitions too long" ++ 10 ∷ []
-status_text NoMemory = codes "no memory" ++ 10 ∷ []
-
--- a text was written, or a front of it and the count of faults rose
-pub record Tells (old new : Option (List ℕ)) (text : List ℕ) (failed : Type 0) : Type 0 where
-  pub count : ℕ
-  pub front : count ≤ length text
-  pub written : new ≡ append_known old (take count text)
-  pub whole : (count ≡ length text) ⊎ failed

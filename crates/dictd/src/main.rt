@@ -13,38 +13,64 @@ mod load;
 mod once;
 mod reply;
 mod session;
+mod status;
 #[cfg(test)]
 mod tests;
 mod thin;
 mod words;
 
+use crate::status::{Status, tell};
 use child_io::OsSpawner;
 use dict_io::{FileShelf, StdSink, StdSource, SystemClock};
+use std::io::{ErrorKind, Write};
 use std::process::ExitCode;
-use std::{env, io};
+use std::env;
 
-/// Makes the real objects, and ends with the number of the status.
-fn main(rt: HostRuntime) -> io::Result<ExitCode> {
-    let alloc = rt.alloc();
-    let mut words = Vec::new(alloc);
-    for word in env::args(&rt)?.skip(1) {
-        words.push(word)?;
+/// Runs the words of the call, and ends with the number of the status.
+fn main(rt: HostRuntime) -> ExitCode {
+    let mut err = StdSink::new(rt.stderr());
+    let status = match called_words(&rt) {
+        Ok(words) => run(&rt, words.as_slice(), &mut err),
+        Err(status) => {
+            tell(&mut err, status);
+            status
+        }
+    };
+    ExitCode::from(status.number())
+}
+
+/// The words behind the program's name. One that isn't UTF-8 is in no form that is called.
+fn called_words(rt: &HostRuntime) -> Result<Vec<String>, Status> {
+    let args = match env::args(rt) {
+        Ok(args) => args,
+        Err(fault) if fault.kind() == ErrorKind::OutOfMemory => return Err(Status::NoMemory),
+        Err(_) => return Err(Status::Usage),
+    };
+    let mut words = Vec::new(rt.alloc());
+    for word in args.skip(1) {
+        if words.push(word).is_err() {
+            return Err(Status::NoMemory);
+        }
     }
-    let mut shelf = FileShelf::new(&rt, alloc);
-    let mut spawner = OsSpawner::new(&rt, alloc);
-    let mut clock = SystemClock::new(&rt);
+    Ok(words)
+}
+
+/// Runs `once` over the real objects.
+fn run<W: Write>(rt: &HostRuntime, words: &[String], err: &mut StdSink<W>) -> Status {
+    let alloc = rt.alloc();
+    let mut shelf = FileShelf::new(rt, alloc);
+    let mut spawner = OsSpawner::new(rt, alloc);
+    let mut clock = SystemClock::new(rt);
     let mut input = StdSource::new(rt.stdin());
     let mut out = StdSink::new(rt.stdout());
-    let mut err = StdSink::new(rt.stderr());
-    let status = once::once(
+    once::once(
         alloc,
-        words.as_slice(),
+        words,
         &mut shelf,
         &mut spawner,
         &mut clock,
         &mut input,
         &mut out,
-        &mut err,
-    );
-    Ok(ExitCode::from(status as u8))
+        err,
+    )
 }

@@ -5,15 +5,17 @@ ghost use Rattle.child_io.specs.Words.{source_words};
 ghost use Rattle.dictd.specs.ThinRows.{thin_shape};
 ghost use Rattle.dictd.specs.Asked.{IsRequestsOf};
 ghost use Rattle.dictd.specs.declared.thin.ThinDefinition.{ThinDefinition};
-ghost use Rattle.dictd.specs.OneRun.{OnceRun, Tells, status_text, status_after, ReadsDefinition, ServesRun};
+ghost use Rattle.dictd.specs.Statuses.{Tells, status_text};
+ghost use Rattle.dictd.specs.OneRun.{OnceRun, status_after, ReadsDefinition, ServesRun};
 
 use crate::input::{InputEnd, read_input};
 use crate::load::{ChildWords, Dictionary, row_shape};
 use crate::session::{Requests, serve_input};
+use crate::status::{Status, tell};
 use crate::thin::{ThinDefinition, ThinFault, read_thin};
 use crate::words::once_file;
 use child_io::{Spawner, folder_of, words_of};
-use dict_io::{Clock, Failed, Shelf, ShelfFault, Sink, Source, write_all};
+use dict_io::{Clock, Failed, Shelf, ShelfFault, Sink, Source};
 use dict_schema::Shape;
 use dict_value::{Bytes, ListOf};
 use std::alloc::Global;
@@ -25,43 +27,6 @@ pub const MOST_DEFINITIONS: u32 = 4_194_304;
 
 /// The room that the first reply needs no memory for.
 const REPLY_ROOM: usize = 256;
-
-/// How a run ended; its number is the status of the program.
-#[derive(Clone, Copy, Debug, PartialEq, Eq)]
-pub enum Status {
-    Done = 0,
-    Usage = 2,
-    DefsUnread = 3,
-    DefsRefused = 4,
-    ReadFault = 5,
-    WriteFault = 6,
-    LineTooLong = 7,
-    DefsTooLong = 9,
-    NoMemory = 12,
-}
-
-impl Status {
-    ghost use Rattle.std.specs.Prelude.{◌≡◌};
-    ghost use Rattle.dictd.specs.OneRun.{status_text};
-
-    /// The text that tells it, with its line feed.
-    pub fn text(self) -> &'static [u8]
-        ensures { result.now ≡ status_text self }
-    {
-        match self {
-            Status::Done => b"",
-            Status::Usage =>
-                b"usage: dictd once DEFS SEED | dictd serve DEFS ADDR WORKERS SEED | dictd demo N SEED\n",
-            Status::DefsUnread => b"cannot read definitions\n",
-            Status::DefsRefused => b"definitions line 1 byte 0: unsupported\n",
-            Status::ReadFault => b"read failed\n",
-            Status::WriteFault => b"write failed\n",
-            Status::LineTooLong => b"line too long\n",
-            Status::DefsTooLong => b"definitions too long\n",
-            Status::NoMemory => b"no memory\n",
-        }
-    }
-}
 
 /// The definition of a file, or the status that it ends the run with.
 fn read_definition<F: Shelf>(
@@ -201,6 +166,6 @@ pub fn once<F: Shelf, S: Spawner, C: Clock, I: Source, O: Sink, E: Sink>(
     ensures told { Tells (E.written err.old) (E.written err.new) (status_text result) (Rose (E.write_faults err.old) (E.write_faults err.new)) }
 {
     let status = run(alloc, words, shelf, spawner, clock, input, out);
-    let _ = write_all(err, status.text());
+    tell(err, status);
     status
 }

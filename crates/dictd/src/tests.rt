@@ -1,6 +1,7 @@
 // Runs of `once` over objects in memory.
 use crate::laws::{one_judgement, one_load_end};
-use crate::once::{Status, once};
+use crate::once::once;
+use crate::status::Status;
 use child_io::{MemorySpawner, Script};
 use dict_io::{MemoryClock, MemoryShelf, MemorySink, MemorySource, NamedFile};
 use dict_value::{Bytes, Exit, ListOf};

@@ -4,6 +4,7 @@ use Rattle.std.specs.List.{range_with_len}
 use Rattle.std.specs.List.Sorted.{IsStrictlyIncreasing}
 use Rattle.std.proofs.lemmas.List.Elements.{All-push, All-weaker}
 use Rattle.dict_value.specs.declared.fault.Exit.TheVariants.{Code}
+use Rattle.load_core.specs.DictSteps.{most_loads}
 use Rattle.load_core.specs.declared.dictionary.DictEffect.TheVariants as effect
 use Rattle.load_core.specs.declared.dictionary.Phase.{Phase}
 use Rattle.load_core.specs.declared.dictionary.Phase.TheVariants.{Idle, Reading, Ready, ToPost}
@@ -13,9 +14,9 @@ use Rattle.load_core.specs.declared.world.WorldEvent.TheVariants.{Start, Finish,
 use Rattle.load_core.specs.declared.world.WorldEntry.{WorldEntry}
 use Rattle.load_core.specs.declared.world.WorldDict.{WorldDict}
 use Rattle.load_core.specs.declared.world.World.{World}
-use Rattle.load_core.specs.WorldSteps.{Verdicts, Answers, Step, Run}
+use Rattle.load_core.specs.WorldSteps.{Verdicts, IsAnswered, Step, Run}
 use Rattle.load_core.specs.Laws.{running, with_piece, joined, IsNoFinish, IsNoPublish, IsOfOneLoad}
-use Rattle.load_core.specs.WorldTurns.{IsShort}
+use Rattle.load_core.specs.steps.WorldTurns.{IsShort}
 use Rattle.load_core.proofs.Runs.{joined_more, run_more}
 
 module _ (judges : Verdicts) (first : World) where
@@ -27,7 +28,7 @@ module _ (judges : Verdicts) (first : World) where
     pub begun : World
     pub order : past ≡ earlier ++ Start d ∷ reading
     pub before : Run judges first earlier idle
-    pub start : Answers judges idle d (Start d) (effect.Begun load) begun
+    pub start : IsAnswered judges idle d (Start d) (effect.Begun load) begun
     pub pieces : Run judges begun reading now
     pub one_finish : All (IsNoFinish d) reading
     pub taken : bytes ≡ joined d [] reading
@@ -43,11 +44,11 @@ module _ (judges : Verdicts) (first : World) where
     pub finished : World
     pub order : past ≡ earlier ++ Start d ∷ reading ++ Finish d (Whole (Code (pos 0))) ∷ ready
     pub before : Run judges first earlier idle
-    pub start : Answers judges idle d (Start d) (effect.Begun load) begun
+    pub start : IsAnswered judges idle d (Start d) (effect.Begun load) begun
     pub pieces : Run judges begun reading read
     pub one_finish : All (IsNoFinish d) reading
     pub taken : bytes ≡ joined d [] reading
-    pub finish : Answers judges read d (Finish d (Whole (Code (pos 0)))) effect.Ready finished
+    pub finish : IsAnswered judges read d (Finish d (Whole (Code (pos 0)))) effect.Ready finished
     pub accepted : judges d bytes None
     pub waiting : Run judges finished ready now
     pub one_publish : All (IsNoPublish d) ready
@@ -64,7 +65,7 @@ module _ (judges : Verdicts) (first : World) where
     pub published : x.core.published ≡ length x.entries
     pub oks : x.core.oks ≡ length x.entries
     pub loads : x.core.loads ≡ x.core.oks + x.core.fails + running x.core.phase
-    pub bound : x.core.loads ≤ 9223372036854775807
+    pub bound : x.core.loads ≤ most_loads
     pub posted : x.posted ≤ length x.entries
     pub numbers : map (λ e. e.number) x.entries ≡ range_with_len 1 (length x.entries)
     pub rising : IsStrictlyIncreasing (map (λ e. e.load) x.entries)

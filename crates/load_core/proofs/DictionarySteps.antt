@@ -21,8 +21,8 @@ use Rattle.load_core.specs.declared.world.WorldEvent.TheVariants.{Start, Piece, 
 use Rattle.load_core.specs.declared.world.WorldEntry.{WorldEntry}
 use Rattle.load_core.specs.declared.world.WorldDict.{WorldDict}
 use Rattle.load_core.specs.declared.world.World.{World}
-use Rattle.load_core.specs.DictSteps.{Stepped, risen, refused, stepped}
-use Rattle.load_core.specs.WorldSteps.{Verdicts, Finishes, FinishesIn, Takes, DictStep, Answers, Step, Run, counted}
+use Rattle.load_core.specs.DictSteps.{most_loads, Stepped, risen, refused, stepped}
+use Rattle.load_core.specs.WorldSteps.{most_bytes, Verdicts, Finishes, FinishesIn, Takes, DictStep, IsAnswered, Step, Run, counted}
 use Rattle.load_core.specs.Laws.{running, with_piece, IsNoFinish, IsNoPublish, IsOfOneLoad}
 use Rattle.load_core.proofs.Dictionaries.{IsReading, IsReady, LoadIs, IsSound, reading_more, one_load_more, sound_same}
 use Rattle.load_core.proofs.Lists.{range_push, rising_push}
@@ -41,26 +41,26 @@ rows_finish judges number text (Whole Killed) h = cc
 rows_finish judges number text NoMemory h = cc
 
 -- a count that can rise
-risen_is : (n : ℕ) → n ≤ 9223372036854775807 → risen n ≡ n + 1
+risen_is : (n : ℕ) → n ≤ most_loads → risen n ≡ n + 1
 risen_is n h = omega arith
 
 -- what a piece joins to, by what it counts
 piece_taken : (d : ℕ) (bytes piece : List ℕ) → 0 < counted bytes piece → with_piece d bytes (Piece d piece) ≡ bytes ++ piece
-piece_taken d bytes piece h = go (nat_le (length bytes + length piece) 4294967295) refl (nat_eq d d) (grind (arith, nat_tests))
+piece_taken d bytes piece h = go (nat_le (length bytes + length piece) most_bytes) refl (nat_eq d d) (grind (arith, nat_tests))
   where
     go : (b : Bool) → nat_le (length bytes + length piece) 4294967295 ≡ b → (s : Bool) → nat_eq d d ≡ true → with_piece d bytes (Piece d piece) ≡ bytes ++ piece
     go true e s same = rw (same, e) refl
     go false e s same = absurd (let k : 0 < 0 = subst (λ (n : ℕ). 0 < n) (ap (λ b. if b then length piece else 0) e) h in omega arith)
 
-piece_short : (bytes piece : List ℕ) → 0 < counted bytes piece → length (bytes ++ piece) ≤ 4294967295
-piece_short bytes piece h = go (nat_le (length bytes + length piece) 4294967295) refl
+piece_short : (bytes piece : List ℕ) → 0 < counted bytes piece → length (bytes ++ piece) ≤ most_bytes
+piece_short bytes piece h = go (nat_le (length bytes + length piece) most_bytes) refl
   where
-    go : (b : Bool) → nat_le (length bytes + length piece) 4294967295 ≡ b → length (bytes ++ piece) ≤ 4294967295
+    go : (b : Bool) → nat_le (length bytes + length piece) 4294967295 ≡ b → length (bytes ++ piece) ≤ most_bytes
     go true e = rw (length-append bytes piece) (grind (arith, nat_tests))
     go false e = absurd (let k : 0 < 0 = subst (λ (n : ℕ). 0 < n) (ap (λ b. if b then length piece else 0) e) h in omega arith)
 
 piece_left : (d : ℕ) (bytes piece : List ℕ) → counted bytes piece ≡ 0 → with_piece d bytes (Piece d piece) ≡ bytes
-piece_left d bytes piece h = go (nat_le (length bytes + length piece) 4294967295) refl (grind (arith, nat_tests))
+piece_left d bytes piece h = go (nat_le (length bytes + length piece) most_bytes) refl (grind (arith, nat_tests))
   where
     go : (b : Bool) → nat_le (length bytes + length piece) 4294967295 ≡ b → nat_eq d d ≡ true → with_piece d bytes (Piece d piece) ≡ bytes
     go true e same =
@@ -73,7 +73,7 @@ module _ (judges : Verdicts) (first : World) (past : List WorldEvent) (now next 
   still event s =
       All-weaker (IsOfOneLoad judges first past now d) (IsOfOneLoad judges first (past ++ event ∷ []) next d) (one_load_more judges first past now d event next s) x.entries h.one_load
 
-  sound_begun : x.core.phase ≡ Idle → x.core.loads < 9223372036854775807 → Answers judges now d (Start d) (effect.Begun (x.core.loads + 1)) next → IsSound judges first (past ++ Start d ∷ []) next d (after_step x [] (begun x.core))
+  sound_begun : x.core.phase ≡ Idle → x.core.loads < most_loads → IsAnswered judges now d (Start d) (effect.Begun (x.core.loads + 1)) next → IsSound judges first (past ++ Start d ∷ []) next d (after_step x [] (begun x.core))
   sound_begun e l a =
       let idle : running x.core.phase ≡ 0 = ap running e in record {
         place = h.place;
@@ -118,7 +118,7 @@ module _ (judges : Verdicts) (first : World) (past : List WorldEvent) (now next 
         (reading_more judges first past now d x.core.loads x.bytes (x.bytes ++ piece) (Piece d piece) next (subst (LoadIs judges first past now d x.core.loads x.bytes) e h.load) s tt (piece_taken d x.bytes piece l));
   }
 
-  sound_read : x.core.phase ≡ Reading → judges d x.bytes None → Answers judges now d (Finish d (Whole (Code (pos 0)))) effect.Ready next → IsSound judges first (past ++ Finish d (Whole (Code (pos 0))) ∷ []) next d (after_step x [] (read x.core))
+  sound_read : x.core.phase ≡ Reading → judges d x.bytes None → IsAnswered judges now d (Finish d (Whole (Code (pos 0)))) effect.Ready next → IsSound judges first (past ++ Finish d (Whole (Code (pos 0))) ∷ []) next d (after_step x [] (read x.core))
   sound_read e accepted a =
       let r : IsReading judges first past now d x.core.loads x.bytes = subst (LoadIs judges first past now d x.core.loads x.bytes) e h.load in
       let reading : running x.core.phase ≡ 1 = ap running e in record {
@@ -171,7 +171,7 @@ module _ (judges : Verdicts) (first : World) (past : List WorldEvent) (now next 
         load = tt;
       }
 
-  sound_published : x.core.phase ≡ Ready → Answers judges now d (Publish d) (effect.Published (risen x.core.published)) next → IsSound judges first (past ++ Publish d ∷ []) next d (after_step x [] (published x.core))
+  sound_published : x.core.phase ≡ Ready → IsAnswered judges now d (Publish d) (effect.Published (risen x.core.published)) next → IsSound judges first (past ++ Publish d ∷ []) next d (after_step x [] (published x.core))
   sound_published e a =
       let r : IsReady judges first past now d x.core.loads x.bytes = subst (LoadIs judges first past now d x.core.loads x.bytes) e h.load in
       let ready : running x.core.phase ≡ 1 = ap running e in
@@ -247,21 +247,21 @@ module _ (judges : Verdicts) (first : World) (past : List WorldEvent) (now next 
   left_by : (taken : DictEvent) (piece : List ℕ) (answer : DictEffect) (y : WorldDict) → Takes x taken piece answer y → stepped x.core taken ≡ refused x.core → y ≡ x
   left_by taken piece answer y t e = t.leaves ∙ dict_refused x taken piece (ap (λ s. s.effect) e)
 
-  pub sound_start : (y : WorldDict) (answer : DictEffect) → DictStep judges x (Start d) answer y → Answers judges now d (Start d) answer next → IsSound judges first (past ++ Start d ∷ []) next d y
+  pub sound_start : (y : WorldDict) (answer : DictEffect) → DictStep judges x (Start d) answer y → IsAnswered judges now d (Start d) answer next → IsSound judges first (past ++ Start d ∷ []) next d y
   sound_start y answer t a =
       elim (start_row x.core) [
-        | inl r ↦ sound_by (Start d) core.Start [] answer y (begun x.core) t r.2 (λ e. sound_begun r.0 r.1 (subst (λ (k : DictEffect). Answers judges now d (Start d) k next) e a))
+        | inl r ↦ sound_by (Start d) core.Start [] answer y (begun x.core) t r.2 (λ e. sound_begun r.0 r.1 (subst (λ (k : DictEffect). IsAnswered judges now d (Start d) k next) e a))
         | inr r ↦ sound_refused (Start d) y (inl (answer, a)) (left_by core.Start [] answer y t r) (λ e. (tt, refl)) (λ e. tt)
       ]
 
-  pub sound_piece : (piece : List ℕ) (y : WorldDict) (answer : DictEffect) → DictStep judges x (Piece d piece) answer y → Answers judges now d (Piece d piece) answer next → IsSound judges first (past ++ Piece d piece ∷ []) next d y
+  pub sound_piece : (piece : List ℕ) (y : WorldDict) (answer : DictEffect) → DictStep judges x (Piece d piece) answer y → IsAnswered judges now d (Piece d piece) answer next → IsSound judges first (past ++ Piece d piece ∷ []) next d y
   sound_piece piece y answer t a =
       elim (piece_row x.core (counted x.bytes piece)) [
         | inl r ↦ sound_by (Piece d piece) (core.Piece (counted x.bytes piece)) piece answer y (taken x.core) t r.2 (λ e. sound_taken piece r.0 r.1 (inl (answer, a)))
         | inr r ↦ sound_refused (Piece d piece) y (inl (answer, a)) (left_by (core.Piece (counted x.bytes piece)) piece answer y t r.0) (λ e. (tt, piece_left d x.bytes piece (r.1 e))) (λ e. tt)
       ]
 
-  pub sound_finish : (ended : Ended) (y : WorldDict) (answer : DictEffect) → DictStep judges x (Finish d ended) answer y → Answers judges now d (Finish d ended) answer next → IsSound judges first (past ++ Finish d ended ∷ []) next d y
+  pub sound_finish : (ended : Ended) (y : WorldDict) (answer : DictEffect) → DictStep judges x (Finish d ended) answer y → IsAnswered judges now d (Finish d ended) answer next → IsSound judges first (past ++ Finish d ended ∷ []) next d y
   sound_finish ended y answer t a = go t.0 t.1 t.2
     where
       rows : FinishesIn x.core.phase judges x.definition x.bytes ended Rows → Takes x (core.Finish Rows) [] answer y → IsSound judges first (past ++ Finish d ended ∷ []) next d y
@@ -269,7 +269,7 @@ module _ (judges : Verdicts) (first : World) (past : List WorldEvent) (now next 
           elim (rows_row x.core) [
             | inl r ↦ (let k = rows_finish judges x.definition x.bytes ended (finishes_running x.core.phase judges x.definition x.bytes ended Rows (ap running r.0) f) in sound_by (Finish d ended) (core.Finish Rows) [] answer y (read x.core) u r.1 (λ e.
                 subst (λ (n : Ended). IsSound judges first (past ++ Finish d n ∷ []) next d (after_step x [] (read x.core))) (sym k.0)
-                (sound_read r.0 (subst (λ (n : ℕ). judges n x.bytes None) h.place k.1) (subst (λ (n : Ended). Answers judges now d (Finish d n) effect.Ready next) k.0 (subst (λ (f : DictEffect). Answers judges now d (Finish d ended) f next) e a)))))
+                (sound_read r.0 (subst (λ (n : ℕ). judges n x.bytes None) h.place k.1) (subst (λ (n : Ended). IsAnswered judges now d (Finish d n) effect.Ready next) k.0 (subst (λ (f : DictEffect). IsAnswered judges now d (Finish d ended) f next) e a)))))
             | inr r ↦ sound_refused (Finish d ended) y (inl (answer, a)) (left_by (core.Finish Rows) [] answer y u r.0) (λ e. absurd (r.1 e)) (λ e. tt)
           ]
 
@@ -281,14 +281,14 @@ module _ (judges : Verdicts) (first : World) (past : List WorldEvent) (now next 
             | inr r ↦ sound_refused (Finish d ended) y (inl (answer, a)) (left_by (core.Finish (Failed why)) [] answer y u r.0) (λ e. absurd (r.1 e)) (λ e. tt)
           ]
 
-  pub sound_publish : (y : WorldDict) (answer : DictEffect) → DictStep judges x (Publish d) answer y → Answers judges now d (Publish d) answer next → IsSound judges first (past ++ Publish d ∷ []) next d y
+  pub sound_publish : (y : WorldDict) (answer : DictEffect) → DictStep judges x (Publish d) answer y → IsAnswered judges now d (Publish d) answer next → IsSound judges first (past ++ Publish d ∷ []) next d y
   sound_publish y answer t a =
       elim (publish_row x.core) [
-        | inl r ↦ sound_by (Publish d) core.Publish [] answer y (published x.core) t r.1 (λ e. sound_published r.0 (subst (λ (k : DictEffect). Answers judges now d (Publish d) k next) e a))
+        | inl r ↦ sound_by (Publish d) core.Publish [] answer y (published x.core) t r.1 (λ e. sound_published r.0 (subst (λ (k : DictEffect). IsAnswered judges now d (Publish d) k next) e a))
         | inr r ↦ sound_refused (Publish d) y (inl (answer, a)) (left_by core.Publish [] answer y t r.0) (λ e. (tt, refl)) (λ e. absurd (r.1 e))
       ]
 
-  pub sound_post : (y : WorldDict) (answer : DictEffect) → DictStep judges x (Post d) answer y → Answers judges now d (Post d) answer next → IsSound judges first (past ++ Post d ∷ []) next d y
+  pub sound_post : (y : WorldDict) (answer : DictEffect) → DictStep judges x (Post d) answer y → IsAnswered judges now d (Post d) answer next → IsSound judges first (past ++ Post d ∷ []) next d y
   sound_post y answer t a =
       elim (post_row x.core) [
         | inl r ↦ sound_by (Post d) core.Post [] answer y (posted x.core) t r.1 (λ e. sound_posted r.0 (inl (answer, a)))

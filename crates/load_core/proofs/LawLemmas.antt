@@ -12,16 +12,15 @@ use Rattle.load_core.specs.declared.dictionary.DictEffect.TheVariants as effect
 use Rattle.load_core.specs.declared.dictionary.DictEvent.TheVariants as core
 use Rattle.load_core.specs.declared.dictionary.Ending.{Ending}
 use Rattle.load_core.specs.declared.dictionary.Ending.TheVariants.{Rows, Failed}
-use Rattle.load_core.specs.declared.dictionary.LastCause.TheVariants as last
 use Rattle.load_core.specs.declared.world.WorldEvent.{WorldEvent}
 use Rattle.load_core.specs.declared.world.WorldEvent.TheVariants.{Start, Piece, Finish, Publish, Post, Enter, Learn}
 use Rattle.load_core.specs.declared.world.WorldEntry.{WorldEntry}
 use Rattle.load_core.specs.declared.world.WorldDict.{WorldDict}
 use Rattle.load_core.specs.declared.world.WorldCaller.{WorldCaller}
 use Rattle.load_core.specs.declared.world.World.{World}
-use Rattle.load_core.specs.WorldSteps.{Verdicts, Finishes, FinishesIn, Takes, DictStep, Answers, CallerEvents, Step, Run, last_number, dict_at, with_dict, caller_at, learnt, empty_world}
-use Rattle.load_core.specs.Laws.{entries_in, entries_of, posted_in, posted_of, cause_in, cause_of, answers_in, answers_of, EachDict, Grows, IsNumbered, IsRising, IsCounted, IsPosted, OneLoadEach, IsOfOneLoad, FailingKeeps, PublishedClears, RefusedKeeps, IsLengthAtEnter, LengthsAtEnter, NeverFall, NeverOlder, NeverBelowLearnt}
-use Rattle.load_core.specs.WorldTurns.{IsShort}
+use Rattle.load_core.specs.WorldSteps.{Verdicts, Finishes, FinishesIn, Takes, DictStep, IsAnswered, CallerEvents, Step, Run, last_number, dict_at, with_dict, caller_at, learnt, empty_world}
+use Rattle.load_core.specs.Laws.{entries_in, posted_in, posted_of, cause_in, answers_in, answers_of, EachDict, Grows, IsNumbered, IsRising, IsCounted, IsPosted, OneLoadEach, IsOfOneLoad, FailsFor, FailingKeeps, PublishedClears, RefusedKeeps, IsLengthAtEnter, LengthsAtEnter, NeverFall, NeverOlder, NeverBelowLearnt}
+use Rattle.load_core.specs.steps.WorldTurns.{IsShort}
 use Rattle.load_core.proofs.Callers.{last_number_is}
 use Rattle.load_core.proofs.Dictionaries.{IsSound}
 use Rattle.load_core.proofs.Lists.{All-from_slice_get}
@@ -51,7 +50,7 @@ module _ (judges : Verdicts) where
       All-from_slice_get P now.dictionaries (λ d x found. h (empty_world n m) now events d x ((sound_world judges n m events now r).dicts d x found))
 
   pub grows : Grows judges
-  grows n m early late mid now r s d = run_grows judges mid late now s d
+  grows n m early mid r late now s d = run_grows judges mid late now s d
 
   pub numbers : EachDict judges IsNumbered
   numbers = each_dict IsNumbered (λ first now past d x h. h.numbers)
@@ -76,7 +75,7 @@ module _ (judges : Verdicts) where
       go (Some x) e = ((sound_world judges n m events now r).dicts d x e).one_load
 
   -- the dictionary of an answer, after it
-  after_answer : (old new : World) (d : ℕ) (event : WorldEvent) (answer : DictEffect) (a : Answers judges old d event answer new) → dict_at new d ≡ Some a.after
+  after_answer : (old new : World) (d : ℕ) (event : WorldEvent) (answer : DictEffect) (a : IsAnswered judges old d event answer new) → dict_at new d ≡ Some a.after
   after_answer old new d event answer a =
       ap (λ (w : World). dict_at w d) a.rest ∙ dict_at-with_same old d a.before a.after a.found
 
@@ -94,7 +93,7 @@ module _ (judges : Verdicts) where
   pub failing_keeps : FailingKeeps judges
   failing_keeps old new d ended a = go a.step.0 a.step.1 a.step.2
     where
-      go : (ending : Ending) → FinishesIn a.before.core.phase judges a.before.definition a.before.bytes ended ending → Takes a.before (core.Finish ending) [] effect.Failing a.after → (why : Cause) × Finishes judges a.before.definition a.before.bytes ended (Failed why) × (cause_of new d ≡ last.Of why) × (entries_of new d ≡ entries_of old d)
+      go : (ending : Ending) → FinishesIn a.before.core.phase judges a.before.definition a.before.bytes ended ending → Takes a.before (core.Finish ending) [] effect.Failing a.after → (why : Cause) × Finishes judges a.before.definition a.before.bytes ended (Failed why) × FailsFor old new d why
       go Rows f t =
           elim (rows_row a.before.core) [
             | inl r ↦ let k : effect.Failing ≡ effect.Ready = t.answers ∙ ap (λ s. s.effect) r.1 in cc
@@ -103,7 +102,7 @@ module _ (judges : Verdicts) where
       go (Failed why) f t =
           elim (failed_row a.before.core why) [
             | inl r ↦ (let is : dict_at new d ≡ Some (after_step a.before [] (failed a.before.core why)) = after_answer old new d (Finish d ended) effect.Failing a ∙ ap (λ (y : WorldDict). Some y) (t.leaves ∙ ap (after_step a.before []) r.1) in
-                (why, finishes_running a.before.core.phase judges a.before.definition a.before.bytes ended (Failed why) r.0 f, ap cause_in is, ap entries_in is ∙ sym (ap entries_in a.found)))
+                (why, finishes_running a.before.core.phase judges a.before.definition a.before.bytes ended (Failed why) r.0 f, record { cause = ap cause_in is; entries = ap entries_in is ∙ sym (ap entries_in a.found) }))
             | inr r ↦ let k : effect.Failing ≡ effect.Refused = t.answers ∙ ap (λ s. s.effect) r.0 in cc
           ]
 
@@ -174,7 +173,7 @@ module _ (judges : Verdicts) where
       go (inr (inr t)) = absurd (none-some t.caller (sym e ∙ t.found_caller))
 
   pub never_below : NeverBelowLearnt judges
-  never_below n m c d early late untold told now r s q = go s
+  never_below n m early untold r c d late told now s q = go s
     where
       w : IsSoundWorld judges (empty_world n m) (early ++ Learn c d ∷ []) told
       w = sound_next judges (empty_world n m) early untold told (sound_world judges n m early untold r) (Learn c d) s

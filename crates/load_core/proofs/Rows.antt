@@ -13,7 +13,7 @@ use Rattle.load_core.specs.declared.dictionary.LastCause.TheVariants as last
 use Rattle.load_core.specs.declared.dictionary.Phase.{Phase}
 use Rattle.load_core.specs.declared.dictionary.Phase.TheVariants.{Idle, Reading, Ready, ToPost}
 use Rattle.load_core.specs.declared.world.WorldDict.{WorldDict}
-use Rattle.load_core.specs.DictSteps.{Stepped, risen, refused, row, stepped}
+use Rattle.load_core.specs.DictSteps.{most_loads, Stepped, risen, refused, row, stepped}
 use Rattle.load_core.specs.declared.world.Ended.{Ended}
 use Rattle.load_core.specs.declared.world.WorldEvent.TheVariants as event
 use Rattle.load_core.specs.WorldSteps.{Verdicts, Finishes, FinishesIn, DictStep, kept, dict_after}
@@ -50,17 +50,17 @@ tested m n = grind (arith, nat_tests)
 -- a Start is taken where no load runs and the loads aren't used up
 abbrev pub StartRow : DictCore → Type 0
 StartRow c =
-    ((c.phase ≡ Idle) × (c.loads < 9223372036854775807) × (stepped c Start ≡ begun c)) ⊎ (stepped c Start ≡ refused c)
+    ((c.phase ≡ Idle) × (c.loads < most_loads) × (stepped c Start ≡ begun c)) ⊎ (stepped c Start ≡ refused c)
 
 pub start_row : (c : DictCore) → StartRow c
 start_row c = go c.phase refl
   where
-    test : c.phase ≡ Idle → Tested c.loads 9223372036854775807 → StartRow c
+    test : c.phase ≡ Idle → Tested c.loads most_loads → StartRow c
     test e (inl t) = inl (e, t.1, ap (λ p. row p Start c) e ∙ ap (λ b. if b then begun c else refused c) t.0)
     test e (inr t) = inr (ap (λ p. row p Start c) e ∙ ap (λ b. if b then begun c else refused c) t.0)
 
     go : (p : Phase) → c.phase ≡ p → StartRow c
-    go Idle e = test e (tested c.loads 9223372036854775807)
+    go Idle e = test e (tested c.loads most_loads)
     go Reading e = inr (ap (λ p. row p Start c) e)
     go Ready e = inr (ap (λ p. row p Start c) e)
     go ToPost e = inr (ap (λ p. row p Start c) e)

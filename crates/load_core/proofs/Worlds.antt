@@ -16,7 +16,8 @@ use Rattle.load_core.specs.declared.world.WorldCaller.{WorldCaller}
 use Rattle.load_core.specs.declared.world.World.{World}
 use Rattle.load_core.specs.DictSteps.{stepped}
 use Rattle.load_core.specs.WorldSteps.{Verdicts, Takes, DictStep, DictEvents, CallerEvents, Step, Run, kept, dict_at, caller_at, entered, learnt, empty_dict, empty_caller, empty_world}
-use Rattle.load_core.specs.Laws.{with_piece, entries_in, entries_of, IsPrefixOf}
+use Rattle.load_core.specs.Laws.{with_piece, entries_in, entries_of}
+use mathlib.Core.List.{IsPrefix}
 use Rattle.load_core.proofs.Callers.{IsInformed, informed_same, informed_told, informed_shown, last_number_is}
 use Rattle.load_core.proofs.Dictionaries.{IsSound, sound_same}
 use Rattle.load_core.proofs.DictionarySteps.{sound_start, sound_piece, sound_finish, sound_publish, sound_post}
@@ -24,32 +25,32 @@ use Rattle.load_core.proofs.Places.{dict_at-with_same, dict_at-with_other}
 use Rattle.load_core.proofs.Runs.{run_more, at_dict, caller_turn, CallerTurn, IsShown, IsTold}
 
 -- what an answer keeps begins with the entries so far
-kept_grows : (x : WorldDict) (piece : List ℕ) (answer : DictEffect) → IsPrefixOf x.entries (kept x piece answer).entries
-kept_grows x piece (effect.Begun load) = ([], sym (append-nil x.entries))
-kept_grows x piece effect.Taken = ([], sym (append-nil x.entries))
-kept_grows x piece effect.Ready = ([], sym (append-nil x.entries))
-kept_grows x piece effect.Failing = ([], sym (append-nil x.entries))
+kept_grows : (x : WorldDict) (piece : List ℕ) (answer : DictEffect) → IsPrefix x.entries (kept x piece answer).entries
+kept_grows x piece (effect.Begun load) = ([], append-nil x.entries)
+kept_grows x piece effect.Taken = ([], append-nil x.entries)
+kept_grows x piece effect.Ready = ([], append-nil x.entries)
+kept_grows x piece effect.Failing = ([], append-nil x.entries)
 kept_grows x piece (effect.Published number) = (record { number = number; bytes = x.bytes; load = x.core.loads } ∷ [], refl)
-kept_grows x piece effect.Posted = ([], sym (append-nil x.entries))
-kept_grows x piece effect.Refused = ([], sym (append-nil x.entries))
+kept_grows x piece effect.Posted = ([], append-nil x.entries)
+kept_grows x piece effect.Refused = ([], append-nil x.entries)
 
-takes_grows : (x : WorldDict) (event : DictEvent) (piece : List ℕ) (answer : DictEffect) (y : WorldDict) → Takes x event piece answer y → IsPrefixOf x.entries y.entries
+takes_grows : (x : WorldDict) (event : DictEvent) (piece : List ℕ) (answer : DictEffect) (y : WorldDict) → Takes x event piece answer y → IsPrefix x.entries y.entries
 takes_grows x event piece answer y t =
-    subst (λ (z : WorldDict). IsPrefixOf x.entries z.entries) (sym t.leaves) (kept_grows x piece (stepped x.core event).effect)
+    subst (λ (z : WorldDict). IsPrefix x.entries z.entries) (sym t.leaves) (kept_grows x piece (stepped x.core event).effect)
 
 -- an event of callers leaves the dictionaries
 pub caller_event_dicts : (old new : World) (c d : ℕ) (becomes : WorldCaller → WorldDict → WorldCaller) → CallerEvents old c d becomes new → (e : ℕ) → dict_at new e ≡ dict_at old e
 caller_event_dicts old new c d becomes (inl i) e = ap (λ (w : World). dict_at w e) i.rest
 caller_event_dicts old new c d becomes (inr s) e = ap (λ (w : World). dict_at w e) s.1
 
-same_prefix : (old new : World) (d : ℕ) → dict_at new d ≡ dict_at old d → IsPrefixOf (entries_of old d) (entries_of new d)
-same_prefix old new d e = ([], ap entries_in e ∙ sym (append-nil (entries_of old d)))
+same_prefix : (old new : World) (d : ℕ) → dict_at new d ≡ dict_at old d → IsPrefix (entries_of old d) (entries_of new d)
+same_prefix old new d e = ([], append-nil (entries_of old d) ∙ sym (ap entries_in e))
 
 piece_elsewhere : (d e : ℕ) (bytes piece : List ℕ) → e ≢ d → with_piece d bytes (Piece e piece) ≡ bytes
 piece_elsewhere d e bytes piece n = let k : nat_eq e d ≡ false = grind (arith, nat_tests) in rw k refl
 
 module _ (judges : Verdicts) where
-  step_grows : (x : WorldDict) (event : WorldEvent) (answer : DictEffect) (y : WorldDict) → DictStep judges x event answer y → IsPrefixOf x.entries y.entries
+  step_grows : (x : WorldDict) (event : WorldEvent) (answer : DictEffect) (y : WorldDict) → DictStep judges x event answer y → IsPrefix x.entries y.entries
   step_grows x (Start d) answer y t = takes_grows x _ _ answer y t
   step_grows x (Piece d piece) answer y t = takes_grows x _ _ answer y t
   step_grows x (Finish d ended) answer y t = takes_grows x _ _ answer y t.2
@@ -58,17 +59,17 @@ module _ (judges : Verdicts) where
   step_grows x (Enter c d) answer y t = absurd t
   step_grows x (Learn c d) answer y t = absurd t
 
-  dict_event_grows : (old new : World) (e : ℕ) (event : WorldEvent) → DictEvents judges old e event new → (d : ℕ) → IsPrefixOf (entries_of old d) (entries_of new d)
+  dict_event_grows : (old new : World) (e : ℕ) (event : WorldEvent) → DictEvents judges old e event new → (d : ℕ) → IsPrefix (entries_of old d) (entries_of new d)
   dict_event_grows old new e event (inr h) d = same_prefix old new d (ap (λ (w : World). dict_at w d) h.1)
   dict_event_grows old new e event (inl h) d = let a = h.1 in elim (cases_eq e d) [
     | inl p ↦ (let before : dict_at old d ≡ Some a.before = ap (dict_at old) (sym p) ∙ a.found in
         let after : dict_at new d ≡ Some a.after = ap (dict_at new) (sym p) ∙ (ap (λ (w : World). dict_at w e) a.rest ∙ dict_at-with_same old e a.before a.after a.found) in
-        subst (λ (o : Option WorldDict). IsPrefixOf (entries_in o) (entries_of new d)) (sym before) (subst (λ (o : Option WorldDict). IsPrefixOf a.before.entries (entries_in o)) (sym after) (step_grows a.before event h.0 a.after a.step)))
+        subst (λ (o : Option WorldDict). IsPrefix (entries_in o) (entries_of new d)) (sym before) (subst (λ (o : Option WorldDict). IsPrefix a.before.entries (entries_in o)) (sym after) (step_grows a.before event h.0 a.after a.step)))
     | inr n ↦ same_prefix old new d (ap (λ (w : World). dict_at w d) a.rest ∙ dict_at-with_other old e d a.after n)
   ]
 
   -- no event takes an entry away
-  pub event_grows : (now : World) (event : WorldEvent) (next : World) → Step judges now event next → (d : ℕ) → IsPrefixOf (entries_of now d) (entries_of next d)
+  pub event_grows : (now : World) (event : WorldEvent) (next : World) → Step judges now event next → (d : ℕ) → IsPrefix (entries_of now d) (entries_of next d)
   event_grows now (Start e) next s d = dict_event_grows now next e (Start e) s d
   event_grows now (Piece e piece) next s d = dict_event_grows now next e (Piece e piece) s d
   event_grows now (Finish e ended) next s d = dict_event_grows now next e (Finish e ended) s d
@@ -78,12 +79,12 @@ module _ (judges : Verdicts) where
   event_grows now (Learn a b) next s d = same_prefix now next d (caller_event_dicts now next a b learnt s d)
 
   -- nor does a run
-  pub run_grows : (now : World) (events : List WorldEvent) (end : World) → Run judges now events end → (d : ℕ) → IsPrefixOf (entries_of now d) (entries_of end d)
+  pub run_grows : (now : World) (events : List WorldEvent) (end : World) → Run judges now events end → (d : ℕ) → IsPrefix (entries_of now d) (entries_of end d)
   run_grows now [] end r d = same_prefix now end d (ap (λ (w : World). dict_at w d) r)
   run_grows now (e ∷ es) end r d =
       let one = event_grows now e r.0 r.1 d in
       let more = run_grows r.0 es end r.2 d in
-      (one.0 ++ more.0, more.1 ∙ ap (λ xs. xs ++ more.0) one.1 ∙ append_assoc (entries_of now d) one.0 more.0)
+      (one.0 ++ more.0, sym (append_assoc (entries_of now d) one.0 more.0) ∙ ap (λ xs. xs ++ more.0) one.1 ∙ more.1)
 
   longer : (now : World) (event : WorldEvent) (next : World) → Step judges now event next → (d : ℕ) → length (entries_of now d) ≤ length (entries_of next d)
   longer now event next s d =

@@ -24,6 +24,10 @@ empty_core =
 abbrev pub risen : ℕ → ℕ
 risen n = min (n + 1) 18446744073709551615
 
+-- the greatest number of loads of a dictionary
+abbrev pub most_loads : ℕ
+most_loads = 9223372036854775807
+
 -- the event isn't one for this phase
 abbrev pub refused : DictCore → Stepped
 refused c = record { core = c; effect = effect.Refused }
@@ -31,7 +35,7 @@ refused c = record { core = c; effect = effect.Refused }
 -- the table, a row for each pair of phase and event that is taken
 abbrev pub row : Phase → DictEvent → DictCore → Stepped
 row Idle Start c =
-    if nat_lt c.loads 9223372036854775807
+    if nat_lt c.loads most_loads
     then record { core = record c { loads = c.loads + 1; phase = Reading }; effect = effect.Begun (c.loads + 1) }
     else refused c
 row Reading (Piece n) c =
@@ -45,7 +49,10 @@ row Reading (Finish (Failed cause)) c =
 row Ready (Finish (Failed cause)) c =
     record { core = record c { fails = risen c.fails; phase = ToPost; cause = last.Of cause }; effect = effect.Failing }
 row Ready Publish c =
-    record { core = record c { published = risen c.published; oks = risen c.oks; phase = ToPost; cause = last.None }; effect = effect.Published (risen c.published) }
+    record {
+      core = record c { published = risen c.published; oks = risen c.oks; phase = ToPost; cause = last.None };
+      effect = effect.Published (risen c.published);
+    }
 row ToPost Post c =
     record { core = record c { phase = Idle }; effect = effect.Posted }
 -- any other pair

@@ -50,7 +50,8 @@ IsRefusedFor decodes cause = ⊥
 -- the rows are a table, or else the first large key is why there is none
 abbrev pub MakesOf : List (List Value) → Result (List (List Value)) TableFault → Type 0
 MakesOf rows made =
-    ((made ≡ Ok rows) × AllByRecursion HasSmallKey rows) ⊎ ((key : ℕ) × (made ≡ Err (table.Refused (LargeKey key))) × IsFirstLarge rows key)
+    ((made ≡ Ok rows) × AllByRecursion HasSmallKey rows)
+    ⊎ ((key : ℕ) × (made ≡ Err (table.Refused (LargeKey key))) × IsFirstLarge rows key)
 
 -- what is made of an answer of decoding, whose fault stays what it is
 abbrev pub Makes : Result (List (List Value)) DecodeFault → Result (List (List Value)) TableFault → Type 0

@@ -1,7 +1,9 @@
 -- What holds of every world that a list of events leads to.
-use Rattle.std.specs.Prelude.{◌≡◌, ◌≢◌, ℕ, ◌+◌, ◌≤◌, ◌&&◌, List, [], ◌∷◌, ◌++◌, length, map, Option, Some, None, pos, nat_eq, nat_le, if◌then◌else◌, slice_get, All}
+use Rattle.std.specs.Prelude.{◌≡◌, ◌≢◌, ℕ, ◌+◌, ◌≤◌, ◌&&◌, List, [], ◌∷◌, ◌++◌, length, map, Option, Some, None, pos}
+use Rattle.std.specs.Prelude.{nat_eq, nat_le, if◌then◌else◌, slice_get, All}
 use Rattle.std.specs.List.{range_with_len}
 use Rattle.std.specs.List.Sorted.{IsNonDecreasing, IsStrictlyIncreasing}
+use mathlib.Core.List.{IsPrefix}
 use Rattle.dict_value.specs.declared.fault.Cause.{Cause}
 use Rattle.dict_value.specs.declared.fault.Exit.TheVariants.{Code}
 use Rattle.load_core.specs.declared.caller.CallerEffect.TheVariants.{Kept}
@@ -21,7 +23,8 @@ use Rattle.load_core.specs.declared.world.WorldDict.{WorldDict}
 use Rattle.load_core.specs.declared.world.WorldCaller.{WorldCaller}
 use Rattle.load_core.specs.declared.world.World.{World}
 use Rattle.load_core.specs.CallerSteps.{effect_of}
-use Rattle.load_core.specs.WorldSteps.{Verdicts, Finishes, Answers, Step, Run, dict_at, caller_at, last_number, empty_world}
+use Rattle.load_core.specs.WorldSteps.{Verdicts, Finishes, IsAnswered, Step, Run, dict_at, caller_at, last_number}
+use Rattle.load_core.specs.WorldSteps.{most_bytes, empty_world}
 
 -- the entries of the dictionary at a place, which are none where there is no dictionary
 abbrev pub entries_in : Option WorldDict → List WorldEntry
@@ -55,9 +58,6 @@ answers_in (Some u) = u.answers
 abbrev pub answers_of : World → ℕ → ℕ → List ℕ
 answers_of w c d = answers_in (caller_at w c d)
 
-abbrev pub IsPrefixOf : {A : Type 0} → List A → List A → Type 0
-IsPrefixOf {A} xs ys = (rest : List A) × (ys ≡ xs ++ rest)
-
 -- how many loads run in a phase: one while it reads and while it waits to be published
 abbrev pub running : Phase → ℕ
 running Idle = 0
@@ -65,10 +65,11 @@ running Reading = 1
 running Ready = 1
 running ToPost = 0
 
--- what the pieces of a dictionary join to, after what was taken before; one that would bring it above the bound is left out
+-- what the pieces of a dictionary join to, after what was taken before; one that would bring it above the bound is left
+-- out
 abbrev pub with_piece : ℕ → List ℕ → WorldEvent → List ℕ
 with_piece d bytes (Piece e piece) =
-    if nat_eq e d && nat_le (length bytes + length piece) 4294967295 then bytes ++ piece else bytes
+    if nat_eq e d && nat_le (length bytes + length piece) most_bytes then bytes ++ piece else bytes
 with_piece d bytes _ = bytes
 
 abbrev pub joined : ℕ → List ℕ → List WorldEvent → List ℕ
@@ -87,7 +88,8 @@ IsNoPublish d _ = Unit {0}
 -- The entry of dictionary d is of one load in this run. The load's Start was answered with the load's number. The
 -- pieces from there to its one Finish, of a child with status 0, join to the entry's bytes, which the judge accepts.
 -- Its one Publish was answered with the entry's number.
-pub record IsOfOneLoad (judges : Verdicts) (first : World) (events : List WorldEvent) (now : World) (d : ℕ) (entry : WorldEntry) : Type 0 where
+pub record IsOfOneLoad (judges : Verdicts) (first : World) (events : List WorldEvent) (now : World)
+    (d : ℕ) (entry : WorldEntry) : Type 0 where
   pub earlier : List WorldEvent
   pub reading : List WorldEvent
   pub ready : List WorldEvent
@@ -101,19 +103,20 @@ pub record IsOfOneLoad (judges : Verdicts) (first : World) (events : List WorldE
   pub order : events
       ≡ earlier ++ Start d ∷ reading ++ Finish d (Whole (Code (pos 0))) ∷ ready ++ Publish d ∷ later
   pub before : Run judges first earlier idle
-  pub start : Answers judges idle d (Start d) (effect.Begun entry.load) begun
+  pub start : IsAnswered judges idle d (Start d) (effect.Begun entry.load) begun
   pub pieces : Run judges begun reading read
   pub one_finish : All (IsNoFinish d) reading
   pub bytes : entry.bytes ≡ joined d [] reading
-  pub finish : Answers judges read d (Finish d (Whole (Code (pos 0)))) effect.Ready finished
+  pub finish : IsAnswered judges read d (Finish d (Whole (Code (pos 0)))) effect.Ready finished
   pub accepted : judges d entry.bytes None
   pub waiting : Run judges finished ready unpublished
   pub one_publish : All (IsNoPublish d) ready
-  pub publish : Answers judges unpublished d (Publish d) (effect.Published entry.number) published
+  pub publish : IsAnswered judges unpublished d (Publish d) (effect.Published entry.number) published
   pub after : Run judges published later now
 
 -- The k-th answer of a caller, from 0, was given at one Enter in this run: it is the length that the list then had.
-pub record IsLengthAtEnter (judges : Verdicts) (first : World) (events : List WorldEvent) (now : World) (c d k answer : ℕ) : Type 0 where
+pub record IsLengthAtEnter (judges : Verdicts) (first : World) (events : List WorldEvent) (now : World)
+    (c d k answer : ℕ) : Type 0 where
   pub earlier : List WorldEvent
   pub later : List WorldEvent
   pub unshown : World
@@ -125,10 +128,15 @@ pub record IsLengthAtEnter (judges : Verdicts) (first : World) (events : List Wo
   pub is_length : answer ≡ length (entries_of unshown d)
   pub after : Run judges shown later now
 
+-- this holds of each run from the empty world: of that world, the events, and the world that they lead to
+abbrev pub InEachRun : Verdicts → (World → List WorldEvent → World → Type 0) → Type 0
+InEachRun judges P =
+    (dictionaries callers : ℕ) (events : List WorldEvent) (now : World) →
+    Run judges (empty_world dictionaries callers) events now → P (empty_world dictionaries callers) events now
+
 -- in each world that events lead to from the empty one, each dictionary is so
 abbrev pub EachDict : Verdicts → (WorldDict → Type 0) → Type 0
-EachDict judges P =
-    (dictionaries callers : ℕ) (events : List WorldEvent) (now : World) → Run judges (empty_world dictionaries callers) events now → All P now.dictionaries
+EachDict judges P = InEachRun judges (λ first events now. All P now.dictionaries)
 
 -- the n-th entry has the number n
 abbrev pub IsNumbered : WorldDict → Type 0
@@ -149,53 +157,61 @@ IsPosted x = x.posted ≤ length x.entries
 -- what later events add to a list leaves its front
 abbrev pub Grows : Verdicts → Type 0
 Grows judges =
-    (dictionaries callers : ℕ) (early late : List WorldEvent) (mid now : World) →
-    Run judges (empty_world dictionaries callers) early mid → Run judges mid late now →
-    (d : ℕ) → IsPrefixOf (entries_of mid d) (entries_of now d)
+    InEachRun judges (λ first early mid.
+    (late : List WorldEvent) (now : World) → Run judges mid late now →
+    (d : ℕ) → IsPrefix (entries_of mid d) (entries_of now d))
 
 -- each entry is of one load of the run
 abbrev pub OneLoadEach : Verdicts → Type 0
 OneLoadEach judges =
-    (dictionaries callers : ℕ) (events : List WorldEvent) (now : World) → Run judges (empty_world dictionaries callers) events now →
-    (d : ℕ) → All (IsOfOneLoad judges (empty_world dictionaries callers) events now d) (entries_of now d)
+    InEachRun judges (λ first events now.
+    (d : ℕ) → All (IsOfOneLoad judges first events now d) (entries_of now d))
+
+-- a dictionary is left with its entries, and with this cause of its last load
+pub record FailsFor (old new : World) (d : ℕ) (why : Cause) : Type 0 where
+  pub cause : cause_of new d ≡ last.Of why
+  pub entries : entries_of new d ≡ entries_of old d
 
 -- a Finish that is answered Failing leaves the list, and its cause is the last one
 abbrev pub FailingKeeps : Verdicts → Type 0
 FailingKeeps judges =
-    (old new : World) (d : ℕ) (ended : Ended) → (a : Answers judges old d (Finish d ended) effect.Failing new) →
-    (why : Cause) × Finishes judges a.before.definition a.before.bytes ended (Failed why) × (cause_of new d ≡ last.Of why) × (entries_of new d ≡ entries_of old d)
+    (old new : World) (d : ℕ) (ended : Ended) → (a : IsAnswered judges old d (Finish d ended) effect.Failing new) →
+    (why : Cause) × Finishes judges a.before.definition a.before.bytes ended (Failed why) × FailsFor old new d why
 
 -- a Publish that is answered Published clears the cause
 abbrev pub PublishedClears : Verdicts → Type 0
 PublishedClears judges =
-    (old new : World) (d number : ℕ) → Answers judges old d (Publish d) (effect.Published number) new → cause_of new d ≡ last.None
+    (old new : World) (d number : ℕ) →
+    IsAnswered judges old d (Publish d) (effect.Published number) new → cause_of new d ≡ last.None
 
 -- an event that is answered Refused changes nothing
 abbrev pub RefusedKeeps : Verdicts → Type 0
 RefusedKeeps judges =
-    (old new : World) (d : ℕ) (event : WorldEvent) → Answers judges old d event effect.Refused new → new ≡ old
+    (old new : World) (d : ℕ) (event : WorldEvent) → IsAnswered judges old d event effect.Refused new → new ≡ old
 
 -- each answer of a caller is the length of the list at its Enter
 abbrev pub LengthsAtEnter : Verdicts → Type 0
 LengthsAtEnter judges =
-    (dictionaries callers : ℕ) (events : List WorldEvent) (now : World) → Run judges (empty_world dictionaries callers) events now →
-    (c d k answer : ℕ) → slice_get (answers_of now c d) k ≡ Some answer → IsLengthAtEnter judges (empty_world dictionaries callers) events now c d k answer
+    InEachRun judges (λ first events now.
+    (c d k answer : ℕ) → slice_get (answers_of now c d) k ≡ Some answer →
+    IsLengthAtEnter judges first events now c d k answer)
 
 -- the answers of a caller for one dictionary never fall
 abbrev pub NeverFall : Verdicts → Type 0
-NeverFall judges =
-    (dictionaries callers : ℕ) (events : List WorldEvent) (now : World) → Run judges (empty_world dictionaries callers) events now →
-    (c d : ℕ) → IsNonDecreasing (answers_of now c d)
+NeverFall judges = InEachRun judges (λ first events now. (c d : ℕ) → IsNonDecreasing (answers_of now c d))
 
 -- an Enter is never older than what the caller knows
 abbrev pub NeverOlder : Verdicts → Type 0
 NeverOlder judges =
-    (dictionaries callers : ℕ) (events : List WorldEvent) (now : World) → Run judges (empty_world dictionaries callers) events now →
-    (c d : ℕ) (u : WorldCaller) (x : WorldDict) → caller_at now c d ≡ Some u → dict_at now d ≡ Some x → effect_of u.core (Entered (last_number x.entries)) ≡ Kept
+    InEachRun judges (λ first events now.
+    (c d : ℕ) (u : WorldCaller) (x : WorldDict) → caller_at now c d ≡ Some u → dict_at now d ≡ Some x →
+    effect_of u.core (Entered (last_number x.entries)) ≡ Kept)
 
 -- what a caller is answered after it learnt a number isn't below that number
 abbrev pub NeverBelowLearnt : Verdicts → Type 0
 NeverBelowLearnt judges =
-    (dictionaries callers c d : ℕ) (early late : List WorldEvent) (untold told now : World) →
-    Run judges (empty_world dictionaries callers) early untold → Step judges untold (Learn c d) told → Run judges told late now →
-    (later : List ℕ) × (answers_of now c d ≡ answers_of told c d ++ later) × All (λ answer. posted_of untold d ≤ answer) later
+    InEachRun judges (λ first early untold.
+    (c d : ℕ) (late : List WorldEvent) (told now : World) →
+    Step judges untold (Learn c d) told → Run judges told late now →
+    (later : List ℕ) × (answers_of now c d ≡ answers_of told c d ++ later)
+    × All (λ answer. posted_of untold d ≤ answer) later)

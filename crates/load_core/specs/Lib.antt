@@ -4,4 +4,4 @@ pub mod WorldRows
 pub mod FlatRows
 pub mod Laws
 pub mod WorldSteps
-pub mod WorldTurns
+pub mod steps

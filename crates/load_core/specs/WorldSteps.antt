@@ -1,5 +1,6 @@
 -- What may happen to a world of dictionaries and callers.
-use Rattle.std.specs.Prelude.{◌≡◌, ℕ, zero, ◌+◌, ◌⊎◌, List, [], ◌∷◌, ◌++◌, length, map, replicate, Option, Some, None, pos, nat_le, if◌then◌else◌, slice_get, slice_set, unwrap_or}
+use Rattle.std.specs.Prelude.{◌≡◌, ℕ, zero, ◌+◌, ◌⊎◌, List, [], ◌∷◌, ◌++◌, length, map, replicate, Option, Some, None}
+use Rattle.std.specs.Prelude.{pos, nat_le, if◌then◌else◌, slice_get, slice_set, unwrap_or}
 use Rattle.std.specs.List.{range_with_len}
 use Rattle.dict_value.specs.declared.fault.Cause.{Cause}
 use Rattle.dict_value.specs.declared.fault.Cause.TheVariants as cause
@@ -52,9 +53,13 @@ FinishesIn Reading judges number text ended ending = Finishes judges number text
 FinishesIn Ready judges number text ended ending = Finishes judges number text ended ending
 FinishesIn ToPost judges number text ended ending = Unit {0}
 
+-- the greatest number of bytes that a load takes
+abbrev pub most_bytes : ℕ
+most_bytes = 4294967295
+
 -- how many bytes a piece counts: one that would bring them above the bound is as an empty one
 abbrev pub counted : List ℕ → List ℕ → ℕ
-counted bytes piece = if nat_le (length bytes + length piece) 4294967295 then length piece else 0
+counted bytes piece = if nat_le (length bytes + length piece) most_bytes then length piece else 0
 
 -- what a dictionary keeps beside its core, by the core's answer
 abbrev pub kept : WorldDict → List ℕ → DictEffect → WorldDict
@@ -71,7 +76,8 @@ dict_after x event piece =
     record (kept x piece (stepped x.core event).effect) { core = (stepped x.core event).core }
 
 -- the core takes this event, answers so, and leaves the dictionary so
-pub record Takes (x : WorldDict) (event : DictEvent) (piece : List ℕ) (answer : DictEffect) (y : WorldDict) : Type 0 where
+pub record Takes (x : WorldDict) (event : DictEvent) (piece : List ℕ) (answer : DictEffect) (y : WorldDict)
+    : Type 0 where
   pub answers : answer ≡ (stepped x.core event).effect
   pub leaves : y ≡ dict_after x event piece
 
@@ -80,7 +86,8 @@ abbrev pub DictStep : Verdicts → WorldDict → WorldEvent → DictEffect → W
 DictStep judges x (Start d) answer y = Takes x core.Start [] answer y
 DictStep judges x (Piece d piece) answer y = Takes x (core.Piece (counted x.bytes piece)) piece answer y
 DictStep judges x (Finish d ended) answer y =
-    (ending : Ending) × FinishesIn x.core.phase judges x.definition x.bytes ended ending × Takes x (core.Finish ending) [] answer y
+    (ending : Ending) × FinishesIn x.core.phase judges x.definition x.bytes ended ending
+    × Takes x (core.Finish ending) [] answer y
 DictStep judges x (Publish d) answer y = Takes x core.Publish [] answer y
 DictStep judges x (Post d) answer y = Takes x core.Post [] answer y
 -- the others aren't events of a dictionary
@@ -105,7 +112,8 @@ abbrev pub with_caller : World → ℕ → ℕ → WorldCaller → World
 with_caller w c d u = record w { callers = slice_set w.callers c (slice_set (known_to w c) d u) }
 
 -- The dictionary at this place takes the event, and its core answers so. All else stays.
-pub record Answers (judges : Verdicts) (old : World) (d : ℕ) (event : WorldEvent) (answer : DictEffect) (new : World) : Type 0 where
+pub record IsAnswered (judges : Verdicts) (old : World) (d : ℕ) (event : WorldEvent) (answer : DictEffect)
+    (new : World) : Type 0 where
   pub before : WorldDict
   pub after : WorldDict
   pub found : dict_at old d ≡ Some before
@@ -131,7 +139,8 @@ abbrev pub learnt : WorldCaller → WorldDict → WorldCaller
 learnt u x = knowing u (Told x.posted)
 
 -- What the caller knows of the dictionary at this place becomes that. All else stays.
-pub record Informs (old : World) (c d : ℕ) (becomes : WorldCaller → WorldDict → WorldCaller) (new : World) : Type 0 where
+pub record Informs (old : World) (c d : ℕ) (becomes : WorldCaller → WorldDict → WorldCaller) (new : World)
+    : Type 0 where
   pub caller : WorldCaller
   pub dictionary : WorldDict
   pub found_caller : caller_at old c d ≡ Some caller
@@ -141,7 +150,7 @@ pub record Informs (old : World) (c d : ℕ) (becomes : WorldCaller → WorldDic
 -- an event of the dictionary at a place; where there is none, nothing changes
 abbrev pub DictEvents : Verdicts → World → ℕ → WorldEvent → World → Type 0
 DictEvents judges old d event new =
-    ((answer : DictEffect) × Answers judges old d event answer new) ⊎ ((dict_at old d ≡ None) × (new ≡ old))
+    ((answer : DictEffect) × IsAnswered judges old d event answer new) ⊎ ((dict_at old d ≡ None) × (new ≡ old))
 
 -- an event of a caller and the dictionary at a place; where one of them isn't there, nothing changes
 abbrev pub CallerEvents : World → ℕ → ℕ → (WorldCaller → WorldDict → WorldCaller) → World → Type 0

@@ -1,6 +1,9 @@
 // The loads of one dictionary, as numbers alone.
 use dict_value::Cause;
 
+#[cfg(test)]
+mod tests;
+
 /// Loads beyond this many are refused.
 pub const MOST_LOADS: u64 = 9223372036854775807;
 

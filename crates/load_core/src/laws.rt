@@ -1,5 +1,7 @@
 // What holds over every list of events.
-ghost use Rattle.load_core.specs.Laws.{EachDict, Grows, IsNumbered, IsRising, IsCounted, IsPosted, OneLoadEach, FailingKeeps, PublishedClears, RefusedKeeps, LengthsAtEnter, NeverFall, NeverOlder, NeverBelowLearnt};
+ghost use Rattle.load_core.specs.Laws.{EachDict, Grows, IsNumbered, IsRising, IsCounted, IsPosted, OneLoadEach};
+ghost use Rattle.load_core.specs.Laws.{FailingKeeps, PublishedClears, RefusedKeeps, LengthsAtEnter, NeverFall};
+ghost use Rattle.load_core.specs.Laws.{NeverOlder, NeverBelowLearnt};
 ghost use Rattle.std.specs.Prelude.{◌≡◌, ℕ, List, Option};
 ghost use Rattle.dict_value.specs.declared.fault.Cause.{Cause};
 ghost use Rattle.load_core.specs.WorldRows.{row_verdicts};

@@ -12,8 +12,6 @@ pub mod dictionary;
 pub mod flat;
 pub mod judge;
 pub mod laws;
-#[cfg(test)]
-mod tests;
 pub mod world;
 mod world_rows;
 

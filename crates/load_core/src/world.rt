@@ -1,9 +1,12 @@
 // Dictionaries and callers at once, and what a list of events makes of them.
-ghost use Rattle.std.specs.Prelude.{◌≡◌, [], ◌∷◌, ◌++◌, ◌≤◌, length, map, replicate, MatchOption, IfOk, OnOk, All, slice_get, slice_set};
+ghost use Rattle.std.specs.Prelude.{◌≡◌, [], ◌∷◌, ◌++◌, ◌≤◌, length, map, replicate, MatchOption, IfOk, OnOk, All};
+ghost use Rattle.std.specs.Prelude.{slice_get, slice_set};
 ghost use Rattle.std.specs.List.{range_with_len};
 ghost use Rattle.load_core.specs.WorldRows.{row_verdicts};
-ghost use Rattle.load_core.specs.WorldSteps.{Judged, Finishes, Run, Step, counted, dict_after, dict_at, with_dict, caller_at, with_caller, known_to, last_number, knowing, empty_dict, empty_caller, empty_world};
-ghost use Rattle.load_core.specs.WorldTurns.{DictTurn, IsShort};
+ghost use Rattle.load_core.specs.WorldSteps.{Judged, Finishes, Run, Step, counted, dict_after, dict_at, with_dict};
+ghost use Rattle.load_core.specs.WorldSteps.{caller_at, with_caller, known_to, last_number, knowing, empty_dict};
+ghost use Rattle.load_core.specs.WorldSteps.{empty_caller, empty_world, most_bytes};
+ghost use Rattle.load_core.specs.steps.WorldTurns.{DictTurn, InformsAt, IsShort, KnowsAt, TurnsAt};
 
 use crate::caller::{CallerCore, CallerEvent};
 use crate::dictionary::{DictCore, DictEffect, DictEvent, Ending, Phase};
@@ -14,6 +17,9 @@ use dict_value::{Bytes, Cause, Exit, Format, ListOf, NoMemory};
 use row_text::decode_rows;
 use std::alloc::Global;
 use std::mem;
+
+#[cfg(test)]
+mod tests;
 
 /// How the child of a load ended.
 #[derive(Clone, Copy, Debug, PartialEq, Eq)]
@@ -194,7 +200,7 @@ impl WorldDict {
 
 /// What the judge says of a whole output.
 fn judged(alloc: Global, definition: u32, text: &[u8]) -> Result<Ending, NoMemory>
-    requires { length text.now ≤ 4294967295 }
+    requires { length text.now ≤ most_bytes }
     ensures { IfOk result (λ ending. Judged row_verdicts definition text.now ending) }
 {
     match accept(decode_rows(alloc, Format::Tab, &WorldColumns, text)) {
@@ -233,7 +239,7 @@ fn informed(
     d: u32,
     event: CallerEvent,
 ) -> Result<ListOf<WorldCaller>, NoMemory>
-    ensures { IfOk result (λ after. MatchOption (slice_get known d) (after ≡ known) (λ u. after ≡ slice_set known d (knowing u event))) }
+    ensures { IfOk result (KnowsAt known d event) }
 {
     let mut known = known.into_vec();
     let place = d as usize;
@@ -285,7 +291,7 @@ impl World {
     /// An event of the dictionary at a place; where there is none, nothing changes.
     fn in_dict(self, alloc: Global, d: u32, event: &WorldEvent) -> Result<World, NoMemory>
         requires { All IsShort self.dictionaries }
-        ensures { IfOk result (λ world. MatchOption (dict_at self d) (world ≡ self) (λ x. (y : WorldDict) × DictTurn row_verdicts x event.now y × (world ≡ with_dict self d y))) }
+        ensures { IfOk result (TurnsAt row_verdicts self d event.now) }
     {
         let World {
             dictionaries,
@@ -304,7 +310,7 @@ impl World {
 
     /// A number of the dictionary at a place comes to a caller; where there is none, nothing changes.
     fn inform(self, alloc: Global, c: u32, d: u32, event: CallerEvent) -> Result<World, NoMemory>
-        ensures { IfOk result (λ world. MatchOption (caller_at self c d) (world ≡ self) (λ u. world ≡ with_caller self c d (knowing u event))) }
+        ensures { IfOk result (InformsAt self c d event) }
     {
         let World {
             dictionaries,

@@ -1,57 +1,58 @@
 -- Views that begin with one another, entries by their numbers, and views whose entries have a fact.
 use Rattle.std.proofs.Common.{◌≡◌, ℕ, zero, suc, ◌≤◌, ◌<◌, List, [], ◌∷◌, ◌++◌, length, take, refl, sym, ap, subst, ◌∙◌, ◌⊎◌, inl, inr, ⊎_elim, arith, Some, append_assoc, length-append}
 use Rattle.std.proofs.lemmas.List.{append-nil}
-use Rattle.version_slot.specs.Views.{Entered, BeginsWith, entry, IsNewestOf, EachHasFact, KeepsTokens, HasEntries, first_entries}
+use mathlib.Core.List.{IsPrefix}
+use Rattle.version_slot.specs.Views.{Entered, entry, IsNewestOf, EachHasFact, KeepsTokens, HasEntries, first_entries}
 
 module _ {E : Type 0} where
-  pub begins-self : (xs : List E) → BeginsWith xs xs
-  begins-self xs = ([], append-nil xs)
+  pub prefix-self : (xs : List E) → IsPrefix xs xs
+  prefix-self xs = ([], append-nil xs)
 
-  pub begins-chain : (xs ys zs : List E) → BeginsWith ys xs → BeginsWith zs ys → BeginsWith zs xs
-  begins-chain xs ys zs p q = (p.0 ++ q.0, sym (append_assoc xs p.0 q.0) ∙ (ap (λ (z : List E). z ++ q.0) p.1 ∙ q.1))
+  pub prefix-chain : (xs ys zs : List E) → IsPrefix xs ys → IsPrefix ys zs → IsPrefix xs zs
+  prefix-chain xs ys zs p q = (p.0 ++ q.0, sym (append_assoc xs p.0 q.0) ∙ (ap (λ (z : List E). z ++ q.0) p.1 ∙ q.1))
 
-  pub begins-append : (xs ys : List E) → BeginsWith (xs ++ ys) xs
-  begins-append xs ys = (ys, refl)
+  pub prefix-append : (xs ys : List E) → IsPrefix xs (xs ++ ys)
+  prefix-append xs ys = (ys, refl)
 
-  pub begins-take : (n : ℕ) (xs : List E) → BeginsWith xs (take n xs)
-  begins-take zero xs = (xs, refl)
-  begins-take (suc n) [] = ([], refl)
-  begins-take (suc n) (x ∷ xs) = (let rest = begins-take n xs in rest.0, ap (λ (z : List E). x ∷ z) (begins-take n xs).1)
+  pub prefix-take : (n : ℕ) (xs : List E) → IsPrefix (take n xs) xs
+  prefix-take zero xs = (xs, refl)
+  prefix-take (suc n) [] = ([], refl)
+  prefix-take (suc n) (x ∷ xs) = (let rest = prefix-take n xs in rest.0, ap (λ (z : List E). x ∷ z) (prefix-take n xs).1)
 
-  pub begins-length : (xs ys : List E) → BeginsWith ys xs → length xs ≤ length ys
-  begins-length xs ys p = subst (λ (z : List E). length xs ≤ length z) p.1 (omega (arith, length-append xs p.0))
+  pub prefix-length : (xs ys : List E) → IsPrefix xs ys → length xs ≤ length ys
+  prefix-length xs ys p = subst (λ (z : List E). length xs ≤ length z) p.1 (omega (arith, length-append xs p.0))
 
   -- of two lists that a third begins with, the longer begins with the shorter
-  pub begins-longer : (xs ys zs : List E) → BeginsWith zs xs → BeginsWith zs ys → length xs ≤ length ys → BeginsWith ys xs
-  begins-longer [] ys zs p q le = (ys, refl)
-  begins-longer (x ∷ xs) [] zs p q le = absurd (omega arith)
-  begins-longer (x ∷ xs) (y ∷ ys) [] p q le = absurd (cc (p.1))
-  begins-longer (x ∷ xs) (y ∷ ys) (z ∷ zs) p q le =
+  pub prefix-longer : (xs ys zs : List E) → IsPrefix xs zs → IsPrefix ys zs → length xs ≤ length ys → IsPrefix xs ys
+  prefix-longer [] ys zs p q le = (ys, refl)
+  prefix-longer (x ∷ xs) [] zs p q le = absurd (omega arith)
+  prefix-longer (x ∷ xs) (y ∷ ys) [] p q le = absurd (cc (p.1))
+  prefix-longer (x ∷ xs) (y ∷ ys) (z ∷ zs) p q le =
       let heads : x ≡ y = cc (p.1, q.1) in
-      let rest = begins-longer xs ys zs (p.0, cc (p.1)) (q.0, cc (q.1)) (omega arith) in
+      let rest = prefix-longer xs ys zs (p.0, cc (p.1)) (q.0, cc (q.1)) (omega arith) in
       (rest.0, cc (heads, rest.1))
 
   -- a view as long as the list that it begins with is that list
-  pub begins-whole : (xs ys : List E) → BeginsWith ys xs → length ys ≤ length xs → xs ≡ ys
-  begins-whole [] [] p le = refl
-  begins-whole [] (y ∷ ys) p le = absurd (omega arith)
-  begins-whole (x ∷ xs) [] p le = absurd (cc (p.1))
-  begins-whole (x ∷ xs) (y ∷ ys) p le =
-      let rest = begins-whole xs ys (p.0, cc (p.1)) (omega arith) in cc (p.1, rest)
+  pub prefix-whole : (xs ys : List E) → IsPrefix xs ys → length ys ≤ length xs → xs ≡ ys
+  prefix-whole [] [] p le = refl
+  prefix-whole [] (y ∷ ys) p le = absurd (omega arith)
+  prefix-whole (x ∷ xs) [] p le = absurd (cc (p.1))
+  prefix-whole (x ∷ xs) (y ∷ ys) p le =
+      let rest = prefix-whole xs ys (p.0, cc (p.1)) (omega arith) in cc (p.1, rest)
 
   -- a list is the first entries of a view that begins with it
-  pub take-begins : (xs ys : List E) → BeginsWith ys xs → take (length xs) ys ≡ xs
-  take-begins [] ys p = refl
-  take-begins (x ∷ xs) [] p = absurd (cc (p.1))
-  take-begins (x ∷ xs) (y ∷ ys) p = let rest = take-begins xs ys (p.0, cc (p.1)) in cc (p.1, rest)
+  pub take-prefix : (xs ys : List E) → IsPrefix xs ys → take (length xs) ys ≡ xs
+  take-prefix [] ys p = refl
+  take-prefix (x ∷ xs) [] p = absurd (cc (p.1))
+  take-prefix (x ∷ xs) (y ∷ ys) p = let rest = take-prefix xs ys (p.0, cc (p.1)) in cc (p.1, rest)
 
   -- an entry stays the entry of its number in each view that begins with its own
-  pub entry-begins : (xs ys : List E) → BeginsWith ys xs → (n : ℕ) (e : E) → entry xs n ≡ Some e → entry ys n ≡ Some e
-  entry-begins xs ys p zero e at = absurd (cc at)
-  entry-begins [] ys p (suc n) e at = absurd (cc at)
-  entry-begins (x ∷ xs) [] p (suc n) e at = absurd (cc (p.1))
-  entry-begins (x ∷ xs) (y ∷ ys) p (suc zero) e at = cc (p.1, at)
-  entry-begins (x ∷ xs) (y ∷ ys) p (suc (suc n)) e at = entry-begins xs ys (p.0, cc (p.1)) (suc n) e at
+  pub entry-prefix : (xs ys : List E) → IsPrefix xs ys → (n : ℕ) (e : E) → entry xs n ≡ Some e → entry ys n ≡ Some e
+  entry-prefix xs ys p zero e at = absurd (cc at)
+  entry-prefix [] ys p (suc n) e at = absurd (cc at)
+  entry-prefix (x ∷ xs) [] p (suc n) e at = absurd (cc (p.1))
+  entry-prefix (x ∷ xs) (y ∷ ys) p (suc zero) e at = cc (p.1, at)
+  entry-prefix (x ∷ xs) (y ∷ ys) p (suc (suc n)) e at = entry-prefix xs ys (p.0, cc (p.1)) (suc n) e at
 
   -- what is appended is the newest entry
   pub entry-append : (xs : List E) (e : E) → entry (xs ++ e ∷ []) (length (xs ++ e ∷ [])) ≡ Some e
@@ -106,8 +107,8 @@ module _ {E : Type 0} where
     fact-append xs x has new before after e same = ⊎_elim (λ (t : (before ≡ xs) × (e ≡ x)). subst (λ (z : List E × E). allows z.0 z.1) (λ i. (sym t.0 i, sym t.1 i)) new) (λ (t : (rest : List E) × (xs ≡ before ++ e ∷ rest)). has before t.0 e t.1) (append-cases xs before after x e same)
 
     -- a list has the fact where a view that begins with it has
-    pub fact-begins : (xs ys : List E) → BeginsWith ys xs → EachHasFact allows ys → EachHasFact allows xs
-    fact-begins xs ys p has before after e same = has before (after ++ p.0) e (sym p.1 ∙ (ap (λ (z : List E). z ++ p.0) same ∙ append_assoc before (e ∷ after) p.0))
+    pub fact-prefix : (xs ys : List E) → IsPrefix xs ys → EachHasFact allows ys → EachHasFact allows xs
+    fact-prefix xs ys p has before after e same = has before (after ++ p.0) e (sym p.1 ∙ (ap (λ (z : List E). z ++ p.0) same ∙ append_assoc before (e ∷ after) p.0))
 
     -- the entry of a number has the fact over the entries of lesser numbers
     pub fact-entry : (xs : List E) (n : ℕ) (e : E) → EachHasFact allows xs → entry xs (suc n) ≡ Some e → allows (take n xs) e

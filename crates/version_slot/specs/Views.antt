@@ -1,6 +1,6 @@
--- What a view of a slot is: one list of entries, the longest that its viewer saw or was told of. Its length is the list's.
+-- What a view of a slot is: one list of entries, the longest that its viewer saw or was told of. It begins with what
+-- was seen and told before: those lists are prefixes of it. Its length is the list's.
 use Rattle.std.specs.Prelude.{◌≡◌, ℕ, zero, suc, List, ◌∷◌, ◌++◌, ◌≤◌, length, take, slice_get, Option, None}
-use mathlib.Core.List.{IsPrefix}
 
 -- what an entering gives: a number, and the entry of that number where there is one
 pub record Entered (E : Type 0) : Type 0 where
@@ -8,10 +8,6 @@ pub record Entered (E : Type 0) : Type 0 where
   pub version : Option E
 
 module _ {E : Type 0} where
-  -- the view begins with the list: the list is a prefix of it
-  abbrev pub BeginsWith : List E → List E → Type 0
-  BeginsWith view list = IsPrefix list view
-
   -- entry n of the view, from 1, where there is one
   abbrev pub entry : List E → ℕ → Option E
   entry view zero = None
@@ -28,7 +24,8 @@ module _ {E : Type 0} where
 
   -- each token of the slot stays one of it, and stands for the same list
   abbrev pub KeepsTokens : {S T : Type 0} → (S → T → Type 0) → (S → T → List E) → S → S → Type 0
-  KeepsTokens {S} {T} is_of told_list old new = (t : T) → is_of old t → is_of new t × (told_list new t ≡ told_list old t)
+  KeepsTokens {S} {T} is_of told_list old new =
+      (t : T) → is_of old t → is_of new t × (told_list new t ≡ told_list old t)
 
   -- a token that is a number is of each list with so many entries, and stands for its first ones
   abbrev pub HasEntries : List E → ℕ → Type 0

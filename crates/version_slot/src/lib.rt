@@ -13,7 +13,7 @@ pub mod seen;
 #[cfg(test)]
 mod tests;
 
-pub use ends::{LAST_NUMBER, Publisher, Token, Viewer};
+pub use ends::{End, LAST_NUMBER, Publisher, Token, Viewer};
 pub use fact::Fact;
 pub use held::Entry;
 pub use plain::{PlainSlot, PlainToken};

@@ -1,8 +1,9 @@
 // The slot of one thread, which is its own publisher and viewer.
-ghost use Rattle.std.specs.Prelude.{ℕ, ◌≡◌, ◌<◌, List, [], ◌∷◌, ◌++◌, length, take, IfOk, OnErr, IsErrOf};
-ghost use Rattle.version_slot.specs.Views.{BeginsWith, EachHasFact, HasEntries, IsNewestOf, KeepsTokens, first_entries};
+ghost use Rattle.std.specs.Prelude.{ℕ, ◌≡◌, ◌<◌, List, [], ◌∷◌, ◌++◌, length, take, IfOk, IsOk, OnErr, IsErrOf};
+ghost use mathlib.Core.List.{IsPrefix};
+ghost use Rattle.version_slot.specs.Views.{EachHasFact, HasEntries, IsNewestOf, KeepsTokens, first_entries};
 
-use crate::ends::{LAST_NUMBER, Publisher, Token, Viewer};
+use crate::ends::{End, LAST_NUMBER, Publisher, Token, Viewer};
 use crate::fact::Fact;
 use crate::held::{Entry, Held};
 use crate::seen::{EnterFault, Seen};
@@ -60,7 +61,7 @@ impl<V: Entry, F: Fact<V>> PlainSlot<V, F> {
     }
 }
 
-impl<V: Entry, F: Fact<V>> Publisher for PlainSlot<V, F> {
+impl<V: Entry, F: Fact<V>> End for PlainSlot<V, F> {
     type V = V;
 
     type Told = PlainToken;
@@ -76,7 +77,9 @@ impl<V: Entry, F: Fact<V>> Publisher for PlainSlot<V, F> {
     ghost is_of = { HasEntries };
 
     ghost told_list = { first_entries };
+}
 
+impl<V: Entry, F: Fact<V>> Publisher for PlainSlot<V, F> {
     fn publish(&mut self, alloc: Global, v: V) -> Result<PlainToken, NoMemory>
         requires room { length self.old < LAST_NUMBER }
         requires fact { F.allows self.old v }
@@ -97,26 +100,11 @@ impl<V: Entry, F: Fact<V>> Publisher for PlainSlot<V, F> {
 }
 
 impl<V: Entry, F: Fact<V>> Viewer for PlainSlot<V, F> {
-    type V = V;
-
-    type Told = PlainToken;
-
-    ghost Slot = { Unit {0} };
-
-    ghost slot = { λ _. tt };
-
-    ghost list = { λ slot. slot };
-
-    ghost allows = { F.allows };
-
-    ghost is_of = { HasEntries };
-
-    ghost told_list = { first_entries };
-
     ghost refusals = { λ _. 0 };
 
-    /// It takes no memory, and is never shut.
+    /// It is never shut, and takes no memory: it lacks only where the handles of an entry can't be counted any more.
     fn enter(&mut self) -> Result<Seen<V>, EnterFault>
+        ensures empty { self.old ≡ [] → IsOk result }
         ensures list { self.new ≡ self.old }
         ensures seen { IfOk result (λ s. IsNewestOf self.new s) }
         ensures fact { EachHasFact F.allows self.new }
@@ -135,7 +123,7 @@ impl<V: Entry, F: Fact<V>> Viewer for PlainSlot<V, F> {
     fn learn(&mut self, told: &mut PlainToken)
         requires { HasEntries self.old told.old }
         ensures list { self.new ≡ self.old }
-        ensures learnt { BeginsWith self.new (first_entries self.old told.old) }
+        ensures learnt { IsPrefix (first_entries self.old told.old) self.new }
         ensures number { length (first_entries self.old told.old) ≡ told.old }
         ensures fact { EachHasFact F.allows self.new }
         ensures told { told.new ≡ told.old }

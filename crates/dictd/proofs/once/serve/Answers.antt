@@ -1,5 +1,5 @@
 use Rattle.std.proofs.Common.{sym, subst, refl}
-use Rattle.dictd.specs.declared.once.Status.{Status}
+use Rattle.dictd.specs.declared.status.Status.{Status}
 use Rattle.dictd.specs.OneRun.{Outside, ServesRun}
 use Rattle.dictd.proofs.Runs.{serves-run, first-load}
 use Rattle.dictd.proofs.once.serve.Goals as goal

@@ -1,10 +1,8 @@
-// The cores and the world on worked rows.
+// Worlds on worked rows, and the laws over them.
+use super::*;
+use crate::dictionary::LastCause;
 use crate::laws::{core_law, one_verdict};
-use crate::{
-    CallerCore, DictCore, DictEffect, DictEvent, Ended, Ending, LastCause, MOST_LOADS, Phase,
-    RowJudge, World, WorldEvent,
-};
-use dict_value::{BadRow, BadValue, Bytes, Cause, Exit, Why};
+use dict_value::{BadRow, BadValue, Why};
 use std::test::Fail;
 
 #[test]
@@ -60,70 +58,26 @@ fn one_dictionary_and_two_callers(rt: HostRuntime) -> Result<(), Fail> {
 }
 
 #[test]
-fn each_pair_of_phase_and_event(rt: HostRuntime) {
-    let failed = DictEvent::Finish(Ending::Failed(Cause::Read));
-    let rows = DictEvent::Finish(Ending::Rows);
-    let table = [
-        (DictEvent::Piece(1), DictEffect::Refused),
-        (rows, DictEffect::Refused),
-        (failed, DictEffect::Refused),
-        (DictEvent::Publish, DictEffect::Refused),
-        (DictEvent::Post, DictEffect::Refused),
-        (DictEvent::Start, DictEffect::Begun(1)),
-        (DictEvent::Start, DictEffect::Refused),
-        (DictEvent::Piece(0), DictEffect::Refused),
-        (DictEvent::Publish, DictEffect::Refused),
-        (DictEvent::Post, DictEffect::Refused),
-        (DictEvent::Piece(4), DictEffect::Taken),
-        (rows, DictEffect::Ready),
-        (DictEvent::Start, DictEffect::Refused),
-        (DictEvent::Piece(1), DictEffect::Refused),
-        (rows, DictEffect::Refused),
-        (DictEvent::Post, DictEffect::Refused),
-        (DictEvent::Publish, DictEffect::Published(1)),
-        (DictEvent::Start, DictEffect::Refused),
-        (DictEvent::Piece(1), DictEffect::Refused),
-        (rows, DictEffect::Refused),
-        (failed, DictEffect::Refused),
-        (DictEvent::Publish, DictEffect::Refused),
-        (DictEvent::Post, DictEffect::Posted),
-        (DictEvent::Start, DictEffect::Begun(2)),
-        (rows, DictEffect::Ready),
-        (failed, DictEffect::Failing),
-        (DictEvent::Post, DictEffect::Posted),
-    ];
-    let mut core = DictCore::new();
-    for (event, effect) in table {
-        let before = core;
-        assert_eq!(rt; core.step(event), effect, "at {event:?} in {before:?}");
-        if effect == DictEffect::Refused {
-            assert_eq!(rt; core, before);
-        }
-    }
-    let after = DictCore {
-        published: 1,
-        loads: 2,
-        oks: 1,
-        fails: 1,
-        phase: Phase::Idle,
-        cause: LastCause::Of(Cause::Read),
-    };
-    assert_eq!(rt; core, after);
-    core.loads = MOST_LOADS;
-    assert_eq!(rt; core.step(DictEvent::Start), DictEffect::Refused);
-}
-
-#[test]
 fn outputs_with_their_verdicts(rt: HostRuntime) -> Result<(), Fail> {
     let word = BadRow {
         line: 2,
         column: 1,
         why: Why::Value(BadValue::NotANumber),
     };
+    let null = BadRow {
+        line: 1,
+        column: 1,
+        why: Why::Value(BadValue::NullNotAllowed),
+    };
     let table = [
         (b"1\ta\\\\\n".as_slice(), Phase::Ready, LastCause::None),
         (b"1\ta".as_slice(), Phase::Ready, LastCause::None),
         (b"499999\t\\N\n".as_slice(), Phase::Ready, LastCause::None),
+        (
+            b"\\N\ta\n".as_slice(),
+            Phase::ToPost,
+            LastCause::Of(Cause::Row(null)),
+        ),
         (
             b"1\ta\nx\tb\n".as_slice(),
             Phase::ToPost,

@@ -1,0 +1,1 @@
+CREATE DICTIONARY runs (run UInt64, told String DEFAULT '') PRIMARY KEY run SOURCE(EXECUTABLE(command 'printf "1\\ta\\n2\\tb\\n"; sh runs.sh /proc/$PPID/exe' format 'TabSeparated')) LAYOUT(FLAT()) LIFETIME(0);

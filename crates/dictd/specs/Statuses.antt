@@ -1,0 +1,36 @@
+-- How a status is told: the number that the program ends with, and the text on the error output.
+use Rattle.std.specs.Prelude.{◌≡◌, ◌≤◌, ℕ, List, [], ◌∷◌, ◌++◌, ◌⊎◌, Option, codes, length, take}
+use Rattle.std.specs.Io.KnownBytes.{append_known}
+use Rattle.dictd.specs.declared.status.Status.{Status}
+use Rattle.dictd.specs.declared.status.Status.TheVariants.{Done, Usage, DefsUnread, DefsRefused, ReadFault, WriteFault, LineTooLong, DefsTooLong, NoMemory}
+
+-- the number that the program ends with
+abbrev pub status_number : Status → ℕ
+status_number Done = 0
+status_number Usage = 2
+status_number DefsUnread = 3
+status_number DefsRefused = 4
+status_number ReadFault = 5
+status_number WriteFault = 6
+status_number LineTooLong = 7
+status_number DefsTooLong = 9
+status_number NoMemory = 12
+
+-- the text that a status is told by
+abbrev pub status_text : Status → List ℕ
+status_text Done = []
+status_text Usage = codes "usage: dictd once DEFS SEED | dictd serve DEFS ADDR WORKERS SEED | dictd demo N SEED" ++ 10 ∷ []
+status_text DefsUnread = codes "cannot read definitions" ++ 10 ∷ []
+status_text DefsRefused = codes "definitions line 1 byte 0: unsupported" ++ 10 ∷ []
+status_text ReadFault = codes "read failed" ++ 10 ∷ []
+status_text WriteFault = codes "write failed" ++ 10 ∷ []
+status_text LineTooLong = codes "line too long" ++ 10 ∷ []
+status_text DefsTooLong = codes "definitions too long" ++ 10 ∷ []
+status_text NoMemory = codes "no memory" ++ 10 ∷ []
+
+-- a text was written, or a front of it and the count of faults rose
+pub record Tells (old new : Option (List ℕ)) (text : List ℕ) (failed : Type 0) : Type 0 where
+  pub count : ℕ
+  pub front : count ≤ length text
+  pub written : new ≡ append_known old (take count text)
+  pub whole : (count ≡ length text) ⊎ failed
