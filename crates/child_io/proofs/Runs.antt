@@ -11,7 +11,7 @@ use Rattle.dict_io.specs.declared.outside.Failed.{Failed}
 use Rattle.child_io.specs.Told.{Told, fresh, IsFresh, RanAs, StartTold, read_fails, read_times_out}
 use Rattle.child_io.specs.Gathers.{gathered_outcome, Gathers, IsWhole, outcome_of}
 use Rattle.child_io.specs.Outcomes.{is_read, taken_by, input_fails, IsHeard, IsChildOutcome}
-use Rattle.child_io.specs.Runs.{HandsOn, Order, RanToEnd, RunTold}
+use Rattle.child_io.specs.Runs.{HandsOn, RanToEnd, RunTold}
 use Rattle.child_io.specs.steps.Fed.{FeedTold}
 use Rattle.child_io.specs.steps.Heard.{HearTold}
 use Rattle.child_io.proofs.Hears.{concat-pieces_by}
@@ -75,18 +75,18 @@ pieces-ran ran words (Some t) input limit pieces (Ended exit) r i h =
 pieces-ran ran words started input limit pieces NoMemory r i h = tt
 
 -- a run of the spawner's next script
-module _ {C : Type 0} (told : C → Option Told) (order : Order) where
-  pub run-not_started : (old new : Option (List Script)) → StartTold told old new (Err StartFailed) → RunTold old new order NotStarted []
+module _ {C : Type 0} (told : C → Option Told) (input : List ℕ) (limit : ℕ) where
+  pub run-not_started : (old new : Option (List Script)) → StartTold told old new (Err StartFailed) → RunTold old new input limit NotStarted []
   run-not_started None new h = h
   run-not_started (Some []) new h = (h.0, refl, refl)
   run-not_started (Some (s ∷ rest)) new h = (h.0, ((λ e. cc), λ _. ((λ _. (refl, refl)), λ starts. let a = sym starts ∙ h.1 in cc)))
 
-  pub run-no_memory : (old new : Option (List Script)) → StartTold told old new (Err StartNoMemory) → RunTold old new order NoMemory []
+  pub run-no_memory : (old new : Option (List Script)) → StartTold told old new (Err StartNoMemory) → RunTold old new input limit NoMemory []
   run-no_memory None new h = h
   run-no_memory (Some []) new h = let a = h.1 in cc
   run-no_memory (Some (s ∷ rest)) new h = (h.0, ((λ _. h.1), λ some. absurd (some refl)))
 
-  pub run-told : (old new : Option (List Script)) (c : C) (pieces : List (List ℕ)) (end : PieceEnd) → end ≢ NoMemory → StartTold told old new (Ok c) → ((s : Script) → told c ≡ Some (fresh s) → IsChildOutcome s order.input order.limit pieces end) → RunTold old new order end pieces
+  pub run-told : (old new : Option (List Script)) (c : C) (pieces : List (List ℕ)) (end : PieceEnd) → end ≢ NoMemory → StartTold told old new (Ok c) → ((s : Script) → told c ≡ Some (fresh s) → IsChildOutcome s input limit pieces end) → RunTold old new input limit end pieces
   run-told None new c pieces end some h is = h
   run-told (Some []) new c pieces end some h is = let a = h.1 in cc
   run-told (Some (s ∷ rest)) new c pieces end some h is = (h.0, ((λ e. absurd (some e)), λ _. ((λ fails. let a = sym fails ∙ h.1.1 in cc), λ _. is s h.1.0)))

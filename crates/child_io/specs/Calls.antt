@@ -26,7 +26,8 @@ History C = C → List Act → C → Type 0
 
 -- the child took this call next
 abbrev pub Takes : {C : Type 0} → History C → C → Act → C → Type 0
-Takes {C} history old act new = (first : C) (acts : List Act) → history first acts old → history first (acts ++ act ∷ []) new
+Takes {C} history old act new =
+    (first : C) (acts : List Act) → history first acts old → history first (acts ++ act ∷ []) new
 
 abbrev pub put_act : Put → List ℕ → Act
 put_act (PutBytes n) piece = write_took (take n piece)

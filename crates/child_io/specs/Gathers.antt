@@ -3,7 +3,8 @@ use Rattle.std.specs.Prelude.{◌≡◌, ℕ, ◌-◌, ◌^◌, min, List, lengt
 use Rattle.std.specs.List.{concat}
 use Rattle.dict_value.specs.Memory.{UnlessNoMemory}
 use Rattle.child_io.specs.declared.child.Outcome.{Outcome}
-use Rattle.child_io.specs.declared.child.Outcome.TheVariants.{NotStarted, WriteFailed, Cut, TooLong, WaitFailed, Ended, NoMemory}
+use Rattle.child_io.specs.declared.child.Outcome.TheVariants.{NotStarted, WriteFailed, Cut, TooLong}
+use Rattle.child_io.specs.declared.child.Outcome.TheVariants.{WaitFailed, Ended, NoMemory}
 use Rattle.child_io.specs.declared.pieces.PieceEnd.{PieceEnd}
 use Rattle.child_io.specs.declared.pieces.PieceEnd.TheVariants as ending
 use Rattle.child_io.specs.declared.pieces.Gathered.{Gathered}

@@ -4,7 +4,8 @@ use Rattle.std.specs.Prelude.{Bool, true, false, ◌||◌, ◌&&◌, ◌==◌, n
 use Rattle.child_io.specs.Told.{has_number, read_fails, read_times_out, read_size}
 use Rattle.child_io.specs.declared.child.Script.{Script}
 use Rattle.child_io.specs.declared.pieces.PieceEnd.{PieceEnd}
-use Rattle.child_io.specs.declared.pieces.PieceEnd.TheVariants.{NotStarted, WriteFailed, Cut, TooLong, WaitFailed, Ended}
+use Rattle.child_io.specs.declared.pieces.PieceEnd.TheVariants.{NotStarted, WriteFailed, Cut, TooLong}
+use Rattle.child_io.specs.declared.pieces.PieceEnd.TheVariants.{WaitFailed, Ended}
 use Rattle.child_io.specs.declared.run.TheConstants.{READ_ROOM}
 
 -- the number of bytes that the first k reads bring
@@ -48,7 +49,8 @@ end_at s input k =
 
 -- the pieces and the end of a child that got this input, and whose input was closed
 abbrev pub IsHeard : Script → List ℕ → ℕ → List (List ℕ) → PieceEnd → Type 0
-IsHeard s input limit pieces end = (k : ℕ) × EndsAt s input limit k × (pieces ≡ pieces_by s k) × (end ≡ end_at s input k)
+IsHeard s input limit pieces end =
+    (k : ℕ) × EndsAt s input limit k × (pieces ≡ pieces_by s k) × (end ≡ end_at s input k)
 
 -- the pieces and the end of a child that was started
 abbrev pub IsChildOutcome : Script → List ℕ → ℕ → List (List ℕ) → PieceEnd → Type 0

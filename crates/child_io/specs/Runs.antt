@@ -13,9 +13,10 @@ use Rattle.child_io.specs.declared.child.Script.{Script}
 use Rattle.child_io.specs.declared.child.How.{How}
 use Rattle.child_io.specs.declared.child.How.TheVariants as how
 use Rattle.child_io.specs.declared.pieces.PieceEnd.{PieceEnd}
-use Rattle.child_io.specs.declared.pieces.PieceEnd.TheVariants.{NotStarted, WriteFailed, Cut, TooLong, WaitFailed, Ended, NoMemory}
+use Rattle.child_io.specs.declared.pieces.PieceEnd.TheVariants.{NotStarted, WriteFailed, Cut, TooLong}
+use Rattle.child_io.specs.declared.pieces.PieceEnd.TheVariants.{WaitFailed, Ended, NoMemory}
 
--- what a run is asked: the words of the program, its input, how many bytes it may print, and how long a read may take
+-- what a run is asked: the program's words, its input, how many bytes it may print, and how long a read may take
 pub record Order : Type 0 where
   pub words : List (List ℕ)
   pub input : List ℕ
@@ -51,7 +52,8 @@ WritesAll input acts = (chunks : List (List ℕ)) × (concat chunks ≡ input) �
 
 abbrev pub WritesFront : List ℕ → List Act → Type 0
 WritesFront input acts =
-    (chunks : List (List ℕ)) × ((rest : List ℕ) × (concat chunks ++ rest ≡ input)) × (acts ≡ map write_took chunks ++ write_failed ∷ [])
+    (chunks : List (List ℕ)) × ((rest : List ℕ) × (concat chunks ++ rest ≡ input))
+    × (acts ≡ map write_took chunks ++ write_failed ∷ [])
 
 -- the read that ends a run, and the wait for a child that was read to its end
 abbrev pub IsEnding : ℕ → ℕ → List (List ℕ) → PieceEnd → List Act → Type 0
@@ -75,7 +77,8 @@ pub data AreCalls (order : Order) (pieces : List (List ℕ)) (end : PieceEnd) (a
 
 -- all that the spawner did was to start this child, which took the calls of the run
 pub record ChildRun {S C : Type 0} (started : S → List (List ℕ) → C → S → Type 0) (told : C → Option Told)
-    (history : History C) (faults : C → ℕ) (order : Order) (old new : S) (end : PieceEnd) (pieces : List (List ℕ)) : Type 0 where
+    (history : History C) (faults : C → ℕ) (order : Order) (old new : S) (end : PieceEnd) (pieces : List (List ℕ))
+    : Type 0 where
   pub first : C
   pub last : C
   pub acts : List Act
@@ -92,19 +95,19 @@ RanChild started told history faults order old new end pieces =
     end ≢ NotStarted → end ≢ NoMemory → ChildRun started told history faults order old new end pieces
 
 -- a run of this script, unless memory ran out at a start that doesn't fail
-abbrev pub ScriptTold : Script → Order → PieceEnd → List (List ℕ) → Type 0
-ScriptTold s order end pieces =
-    (end ≡ NoMemory → s.start_fails ≡ false) × UnlessNoMemory NoMemory end (IsOutcome s order.input order.limit pieces end)
+abbrev pub ScriptTold : Script → List ℕ → ℕ → PieceEnd → List (List ℕ) → Type 0
+ScriptTold s input limit end pieces =
+    (end ≡ NoMemory → s.start_fails ≡ false) × UnlessNoMemory NoMemory end (IsOutcome s input limit pieces end)
 
 -- a run takes the next script, and its outcome is that script's; without a script it doesn't start
-abbrev pub RunTold : Option (List Script) → Option (List Script) → Order → PieceEnd → List (List ℕ) → Type 0
-RunTold None new order end pieces = new ≡ None
-RunTold (Some []) new order end pieces = (new ≡ Some []) × (pieces ≡ []) × (end ≡ NotStarted)
-RunTold (Some (s ∷ rest)) new order end pieces =
-    (new ≡ Some rest) × ScriptTold s order end pieces
+abbrev pub RunTold : Option (List Script) → Option (List Script) → List ℕ → ℕ → PieceEnd → List (List ℕ) → Type 0
+RunTold None new input limit end pieces = new ≡ None
+RunTold (Some []) new input limit end pieces = (new ≡ Some []) × (pieces ≡ []) × (end ≡ NotStarted)
+RunTold (Some (s ∷ rest)) new input limit end pieces = (new ≡ Some rest) × ScriptTold s input limit end pieces
 
 -- the fact of a run to its end
-abbrev pub RanToEnd : (List (List ℕ) → List ℕ → Exit → Type 0) → List (List ℕ) → PieceEnd → List (List ℕ) → Type 0
+abbrev pub RanToEnd : (List (List ℕ) → List ℕ → Exit → Type 0) → List (List ℕ) → PieceEnd → List (List ℕ)
+    → Type 0
 RanToEnd ran words NotStarted pieces = ⊤
 RanToEnd ran words WriteFailed pieces = ⊤
 RanToEnd ran words (Cut timed_out) pieces = ⊤
@@ -114,7 +117,8 @@ RanToEnd ran words (Ended exit) pieces = ran words (concat pieces) exit
 RanToEnd ran words NoMemory pieces = ⊤
 
 -- some pieces were handed on, one for each read that brought bytes, within the limit, and all of this holds of them
-pub record HandsOn (took : List (List ℕ) → Type 0) (limit : ℕ) (by_script by_child in_full : List (List ℕ) → Type 0) : Type 0 where
+pub record HandsOn (took : List (List ℕ) → Type 0) (limit : ℕ) (by_script by_child in_full : List (List ℕ) → Type 0)
+    : Type 0 where
   pub pieces : List (List ℕ)
   pub handed : took pieces
   pub some : All (λ piece. 0 < length piece) pieces

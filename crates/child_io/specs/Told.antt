@@ -26,7 +26,8 @@ pub record Told : Type 0 where
   pub writes : ℕ
 
 abbrev pub told_of : Script → List ℕ → ℕ → ℕ → ℕ → Told
-told_of s written taken reads writes = record { script = s; written = written; taken = taken; reads = reads; writes = writes }
+told_of s written taken reads writes =
+    record { script = s; written = written; taken = taken; reads = reads; writes = writes }
 
 -- a child that was just started
 abbrev pub fresh : Script → Told
@@ -52,7 +53,8 @@ abbrev pub put_of : Told → ℕ → Put
 put_of t size = if put_size t size == 0 then PutFailed else PutBytes (put_size t size)
 
 abbrev pub after_put : Told → List ℕ → Told
-after_put t piece = record t { written = t.written ++ take (put_size t (length piece)) piece; writes = count_up t.writes }
+after_put t piece =
+    record t { written = t.written ++ take (put_size t (length piece)) piece; writes = count_up t.writes }
 
 abbrev pub PutTold : Option Told → Option Told → Put → List ℕ → Type 0
 PutTold None new r piece = new ≡ None

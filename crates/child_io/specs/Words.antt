@@ -29,7 +29,8 @@ source_words s folder =
 -- a slash stands at that place, and none behind it
 abbrev pub IsLastSlash : List ℕ → ℕ → Type 0
 IsLastSlash path i =
-    (i < length path) × (slice_index_or path i 0 ≡ 47) × ((k : ℕ) → i < k → k < length path → slice_index_or path k 0 ≢ 47)
+    (i < length path) × (slice_index_or path i 0 ≡ 47)
+    × ((k : ℕ) → i < k → k < length path → slice_index_or path k 0 ≢ 47)
 
 -- the part of a path before its last slash (47), or a point where there is none
 abbrev pub IsFolder : List ℕ → List ℕ → Type 0

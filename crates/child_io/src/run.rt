@@ -93,7 +93,7 @@ pub fn run_pieces<S: Spawner, P: Pieces>(
     ensures run {
         let order = order_of words.now input.now limit read_ms in
         HandsOn (P.took out.new) limit
-            (RunTold (S.scripts spawner.old) (S.scripts spawner.new) order result)
+            (RunTold (S.scripts spawner.old) (S.scripts spawner.new) input.now limit result)
             (RanChild S.started S.C.told S.C.history S.C.faults order spawner.old spawner.new result)
             (RanToEnd S.ran words.now result)
     }
@@ -129,7 +129,7 @@ pub fn run_whole<S: Spawner>(
     ensures run {
         let order = order_of words.now input.now limit read_ms in
         (end : EndOf) × EndBroke S.C.broke end × HandsOn (IsWhole result end) limit
-            (RunTold (S.scripts spawner.old) (S.scripts spawner.new) order end)
+            (RunTold (S.scripts spawner.old) (S.scripts spawner.new) input.now limit end)
             (RanChild S.started S.C.told S.C.history S.C.faults order spawner.old spawner.new end)
             (RanToEnd S.ran words.now end)
     }

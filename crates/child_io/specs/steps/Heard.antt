@@ -19,7 +19,8 @@ HearCalls {C} history old limit read_ms end new pieces = (first : C) (acts : Lis
     × history first (acts ++ (map (read_gave read_ms) pieces ++ ending)) new
 
 -- the pieces that were handed on: one for each read that brought bytes, within the limit
-pub record HearsPieces (took : List (List ℕ) → Type 0) (limit : ℕ) (by_script by_calls : List (List ℕ) → Type 0) : Type 0 where
+pub record HearsPieces (took : List (List ℕ) → Type 0) (limit : ℕ) (by_script by_calls : List (List ℕ) → Type 0)
+    : Type 0 where
   pub pieces : List (List ℕ)
   pub handed : took pieces
   pub some : All (λ piece. 0 < length piece) pieces

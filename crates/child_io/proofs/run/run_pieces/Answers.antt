@@ -13,7 +13,7 @@ returns-in-Err-clause-run g c =
     let w = c.in-Err.ensures.calls child [] c.in-Ok.ensures.history in
     let outcome = outcome-unwritten (g.S.C.Child.told child) (g.S.C.Child.told c.feed.new.child) c.args.input.now c.args.limit c.in-Err.field-0 c.in-Err.ensures.told in
     hands-none _ _ _ _ _ c.requires
-    (run-told g.S.C.Child.told order _ _ child [] WriteFailed (λ e. cc) c.in-Ok.ensures.told outcome)
+    (run-told g.S.C.Child.told c.args.input.now c.args.limit _ _ child [] WriteFailed (λ e. cc) c.in-Ok.ensures.told outcome)
     (λ _ _. record {
       first = child;
       last = c.feed.new.child;
@@ -42,7 +42,7 @@ returns-clause-run g c =
       handed = h.handed;
       some = h.some;
       within = h.within;
-      told = run-told g.S.C.Child.told order _ _ child h.pieces c.hear.result c.hear.ensures.had_memory c.in-Ok.ensures.told outcome;
+      told = run-told g.S.C.Child.told c.args.input.now c.args.limit _ _ child h.pieces c.hear.result c.hear.ensures.had_memory c.in-Ok.ensures.told outcome;
       child = λ _ _. record {
         first = child;
         last = c.hear.new.child;
