@@ -1,12 +1,12 @@
 -- The calls of a child, one after another.
-use Rattle.std.proofs.Common.{◌≡◌, ◌<◌, ℕ, ◌+◌, List, [], ◌∷◌, ◌++◌, length, map, take, drop, Err, Ok, append_assoc, append-nil, refl, ap, sym, ◌∙◌, subst}
+use Rattle.std.proofs.Common.{◌≡◌, ℕ, ◌+◌, List, [], ◌∷◌, ◌++◌, length, map, take, drop, Err, Ok, append_assoc, append-nil, refl, ap, sym, ◌∙◌, subst}
 use Rattle.std.proofs.Math.Seq.{take-add, take-length}
 use Rattle.std.proofs.lemmas.List.{map-append, take-append-drop}
 use Rattle.std.proofs.lemmas.List.Folds.{concat-append}
 use Rattle.std.specs.List.{concat}
 use Rattle.dict_io.specs.declared.outside.Failed.{Failed}
 use Rattle.child_io.specs.Calls.{Act, History, Takes, write_took, write_failed, input_closed, read_gave}
-use Rattle.child_io.specs.Runs.{AreCalls, heard, IsEnding, Order, WritesAll}
+use Rattle.child_io.specs.Runs.{AreCalls, heard, IsEnding, Order}
 use Rattle.child_io.specs.steps.Fed.{FeedCalls}
 use Rattle.child_io.specs.steps.Heard.{HearCalls}
 use Rattle.child_io.specs.declared.pieces.PieceEnd.{PieceEnd}

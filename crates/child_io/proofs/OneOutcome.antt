@@ -1,5 +1,5 @@
 -- Each script has one outcome.
-use Rattle.std.proofs.Common.{◌≡◌, ◌<◌, ◌≤◌, ℕ, zero, suc, ◌+◌, ◌-◌, min, List, [], length, Bool, true, false, ◌||◌, ◌==◌, nat_lt, ◌⊎◌, inl, inr, refl, ap, sym, ◌∙◌, arith, lit<}
+use Rattle.std.proofs.Common.{◌≡◌, ◌<◌, ◌≤◌, ℕ, zero, suc, ◌+◌, List, [], length, Bool, true, false, ◌||◌, ◌==◌, nat_lt, ◌⊎◌, inl, inr, refl, ap, sym, ◌∙◌, arith, lit<}
 use Rattle.std.proofs.lemmas.Bool.Decides.{nat_tests}
 use Rattle.child_io.specs.Told.{read_fails, read_times_out, read_size}
 use Rattle.child_io.specs.Outcomes.{taken_by, pieces_by, input_fails, is_read, is_last, EndsAt, end_at, IsHeard, IsOutcome}

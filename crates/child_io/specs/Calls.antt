@@ -1,5 +1,5 @@
 -- The calls that a child takes, one after another.
-use Rattle.std.specs.Prelude.{◌≡◌, ℕ, List, [], ◌∷◌, ◌++◌, take, Result, Ok, Err}
+use Rattle.std.specs.Prelude.{ℕ, List, [], ◌∷◌, ◌++◌, take, Result, Ok, Err}
 use Rattle.dict_value.specs.declared.fault.Exit.{Exit}
 use Rattle.dict_io.specs.declared.outside.Put.{Put}
 use Rattle.dict_io.specs.declared.outside.Put.TheVariants.{Bytes as PutBytes, Failed as PutFailed}

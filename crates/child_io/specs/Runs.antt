@@ -1,6 +1,6 @@
 -- One run of a child: what it is asked, and what it does, hands on and answers.
 use Rattle.std.specs.Prelude.{◌≡◌, ◌≢◌, ◌<◌, ◌≤◌, ℕ, ◌+◌, List, [], ◌∷◌, ◌++◌, length, map, ⊤}
-use Rattle.std.specs.Prelude.{Option, Some, None, false, true, if◌then◌else◌}
+use Rattle.std.specs.Prelude.{Option, Some, None, false, if◌then◌else◌}
 use Rattle.std.specs.List.{All, concat}
 use Rattle.dict_value.specs.Memory.{UnlessNoMemory}
 use Rattle.dict_value.specs.declared.fault.Exit.{Exit}

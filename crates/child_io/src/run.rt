@@ -44,10 +44,8 @@ fn hear<C: Child, P: Pieces>(child: &mut C, limit: u32, read_ms: u32, out: &mut 
     requires closed { IsTrue (C.closed child.old) }
     requires open { C.ended child.old ≡ false }
     requires unheard { P.took out.old [] }
-    ensures heard {
-        HearsPieces (P.took out.new) limit (HearTold (C.told child.old) limit result)
-            (HearCalls C.history child.old limit read_ms result child.new)
-    }
+    ensures heard { HearsPieces (P.took out.new) limit (HearTold (C.told child.old) limit result)
+        (HearCalls C.history child.old limit read_ms result child.new) }
     ensures kept { P.kept out.new ≡ P.kept out.old }
     ensures broke { EndBroke C.broke result }
     ensures cause { HasCause (C.faults child.old) (C.faults child.new) (EndFails result) }
@@ -90,13 +88,11 @@ pub fn run_pieces<S: Spawner, P: Pieces>(
     out: &mut P,
 ) -> PieceEnd
     requires { P.took out.old [] }
-    ensures run {
-        let order = order_of words.now input.now limit read_ms in
+    ensures run { let order = order_of words.now input.now limit read_ms in
         HandsOn (P.took out.new) limit
-            (RunTold (S.scripts spawner.old) (S.scripts spawner.new) input.now limit result)
-            (RanChild S.started S.C.told S.C.history S.C.faults order spawner.old spawner.new result)
-            (RanToEnd S.ran words.now result)
-    }
+        (RunTold (S.scripts spawner.old) (S.scripts spawner.new) input.now limit result)
+        (RanChild S.started S.C.told S.C.history S.C.faults order spawner.old spawner.new result)
+        (RanToEnd S.ran words.now result) }
     ensures kept { P.kept out.new ≡ P.kept out.old }
     ensures broke { EndBroke S.C.broke result }
     ensures cause { HasCause (S.start_faults spawner.old) (S.start_faults spawner.new) (result ≡ PieceEnd.NotStarted) }
@@ -126,13 +122,11 @@ pub fn run_whole<S: Spawner>(
     limit: u32,
     read_ms: u32,
 ) -> Outcome
-    ensures run {
-        let order = order_of words.now input.now limit read_ms in
+    ensures run { let order = order_of words.now input.now limit read_ms in
         (end : EndOf) × EndBroke S.C.broke end × HandsOn (IsWhole result end) limit
-            (RunTold (S.scripts spawner.old) (S.scripts spawner.new) input.now limit end)
-            (RanChild S.started S.C.told S.C.history S.C.faults order spawner.old spawner.new end)
-            (RanToEnd S.ran words.now end)
-    }
+        (RunTold (S.scripts spawner.old) (S.scripts spawner.new) input.now limit end)
+        (RanChild S.started S.C.told S.C.history S.C.faults order spawner.old spawner.new end)
+        (RanToEnd S.ran words.now end) }
     ensures cause { HasCause (S.start_faults spawner.old) (S.start_faults spawner.new) (result ≡ Outcome.NotStarted) }
 {
     let mut gathered = Gathered::new(alloc);

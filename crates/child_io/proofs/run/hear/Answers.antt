@@ -1,5 +1,4 @@
 use Rattle.std.proofs.Common.{◌≡◌, length, take, true, false, arith, ◌∙◌, refl}
-use Rattle.std.proofs.lemmas.Grind.{common_steps}
 use Rattle.child_io.specs.Calls.{read_gave, read_ended, read_failed, read_timed_out, wait_gave, wait_failed}
 use Rattle.child_io.specs.declared.pieces.PieceEnd.TheVariants.{Cut, TooLong, WaitFailed, Ended}
 use Rattle.child_io.specs.steps.Heard.{HearCalls}
@@ -32,8 +31,8 @@ loop-count-preserved g c =
       room = room;
       within = omega (arith, i.within);
       handed = handed-next _ _ (Reading g.C.Child.history c.args.child.now c.args.read_ms c.loop-count.child) (Reading g.C.Child.history c.args.child.now c.args.read_ms c.read.new.self)
-      _ _ _ _ _ _ _ (omega (arith, c.ranges.limit.fits)) room c.in-Bytes.ensures.bound.0 c.in-Bytes.ensures.bound.1 i.within (omega arith) i.handed (rw i.closed at c.in-Bytes.ensures.told) c.take.ensures.took
-      (reading-next g.C.Child.history c.args.child.now c.loop-count.child c.read.new.self c.args.read_ms (take c.in-Bytes.count c.read.new.buf) c.in-Bytes.ensures.history);
+          _ _ _ _ _ _ _ (omega (arith, c.ranges.limit.fits)) room c.in-Bytes.ensures.bound.0 c.in-Bytes.ensures.bound.1 i.within (omega arith) i.handed (rw i.closed at c.in-Bytes.ensures.told) c.take.ensures.took
+          (reading-next g.C.Child.history c.args.child.now c.loop-count.child c.read.new.self c.args.read_ms (take c.in-Bytes.count c.read.new.buf) c.in-Bytes.ensures.history);
     }
 
 pub returns-then-count-limit-clause-heard : goal.returns-then-count-limit-clause-heard

@@ -1,6 +1,5 @@
-use Rattle.std.proofs.Common.{[], refl, ◌∙◌, sym}
-use Rattle.child_io.specs.Calls.{write_failed}
-use Rattle.child_io.specs.Runs.{Order, order_of, ChildRun, unwritten, EndFails}
+use Rattle.std.proofs.Common.{[], refl, ◌∙◌}
+use Rattle.child_io.specs.Runs.{Order, order_of, unwritten, EndFails}
 use Rattle.child_io.specs.declared.pieces.PieceEnd.TheVariants.{WriteFailed}
 use Rattle.child_io.proofs.Histories.{run-calls}
 use Rattle.child_io.proofs.Runs.{cause-from, hands-none, outcome-heard, outcome-unwritten, child-heard, pieces-ran, run-told}
@@ -54,5 +53,5 @@ returns-clause-run g c =
         outcome = outcome;
       };
       full = pieces-ran g.S.Spawner.ran c.args.words.now started c.args.input.now c.args.limit h.pieces c.hear.result c.in-Ok.ensures.ran c.in-Ok.ensures.fresh
-      (λ s e. (child-heard started fed closed c.args.input.now c.args.limit h.pieces c.hear.result c.in-Ok-feed.ensures.told c.close_input.ensures.told h.told s e).1);
+          (λ s e. (child-heard started fed closed c.args.input.now c.args.limit h.pieces c.hear.result c.in-Ok-feed.ensures.told c.close_input.ensures.told h.told s e).1);
     }

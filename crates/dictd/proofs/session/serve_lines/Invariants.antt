@@ -1,4 +1,4 @@
-use Rattle.std.proofs.Common.{◌≤◌, length}
+use Rattle.std.proofs.Common.{◌≡◌, length}
 use Rattle.dictd.specs.declared.thin.ThinDefinition.{ThinDefinition}
 use Rattle.dictd.specs.Asked.{IsRequestsOf}
 use Rattle.dictd.proofs.Lines.{Serving}
