@@ -6,6 +6,7 @@ use Rattle.std.proofs.lemmas.Grind.{common_steps}
 use Rattle.std.proofs.lemmas.Bool.Decides.{nat_tests}
 use Rattle.child_io.specs.Told.{Told, fresh, has_number, put_size, after_put, PutTold}
 use Rattle.child_io.specs.Outcomes.{input_fails}
+use Rattle.child_io.specs.steps.Fed.{FedAs}
 use Rattle.dict_io.specs.declared.outside.Put.TheVariants.{Bytes as PutBytes, Failed as PutFailed}
 use Rattle.child_io.specs.declared.child.Script.{Script}
 
@@ -120,8 +121,18 @@ feed-failed s input done told new less f put =
     feed-none s input done f less (rw size at (put-failed (put_size t (length (drop done input))) a.0))
 
 -- all of it was written
-pub feed-done : (s : Script) (input : List ℕ) (done : ℕ) (told : Option Told) → done ≡ length input → Feeding s input done told → (input_fails s input ≡ false) × ((t : Told) × (told ≡ Some t) × (t.script ≡ s) × (t.written ≡ input) × (t.taken ≡ 0) × (t.reads ≡ 0))
-feed-done s input done told e f = (feed-not s input done e f.later, (f.now, f.told_now, f.script, f.written ∙ ap (λ n. take n input) e ∙ take-length input, f.taken, f.reads))
+pub feed-done : (s : Script) (input : List ℕ) (done : ℕ) (told : Option Told) → done ≡ length input → Feeding s input done told → (input_fails s input ≡ false) × FedAs s input told
+feed-done s input done told e f = (
+  feed-not s input done e f.later,
+  record {
+    now = f.now;
+    told_now = f.told_now;
+    script = f.script;
+    written = f.written ∙ ap (λ n. take n input) e ∙ take-length input;
+    taken = f.taken;
+    reads = f.reads;
+  },
+)
 
 pub feed-fresh : (s : Script) (input : List ℕ) (told : Option Told) → told ≡ Some (fresh s) → Feeding s input 0 told
 feed-fresh s input told e = record {

@@ -7,8 +7,11 @@ use Rattle.std.proofs.lemmas.List.Folds.{concat-append}
 use Rattle.std.proofs.lemmas.List.Elements.{All-nil, All-push}
 use Rattle.std.specs.List.{All, concat}
 use Rattle.dict_io.specs.Memory.{size_at}
-use Rattle.child_io.specs.Told.{Told, count_up, read_fails, read_times_out, read_size, heard_of, after_heard, HeardAs, HeardTold, WaitTold}
-use Rattle.child_io.specs.Outcomes.{read_room, taken_by, piece_of, pieces_by, is_last, end_at, IsHeard, HeardPieces}
+use Rattle.dict_io.specs.Outside.{count_up}
+use Rattle.child_io.specs.Told.{Told, read_fails, read_times_out, read_size, heard_of, after_heard, HeardAs, HeardTold, WaitTold}
+use Rattle.child_io.specs.Outcomes.{taken_by, piece_of, pieces_by, is_read, is_last, end_at, IsHeard}
+use Rattle.child_io.specs.steps.Heard.{HearsPieces, HearTold}
+use Rattle.child_io.specs.declared.run.TheConstants.{READ_ROOM}
 use Rattle.dict_io.specs.declared.outside.Failed.{Failed}
 use Rattle.child_io.specs.declared.child.Heard.{Heard}
 use Rattle.child_io.specs.declared.child.Heard.TheVariants.{Bytes as HeardBytes, End as HeardEnd, Failed as HeardFailed, TimedOut as HeardTimedOut}
@@ -35,9 +38,10 @@ pub record HearsSince (limit : ℕ) (t0 : Told) (told : Option Told) (pieces : L
   pub hearing : Hearing limit now pieces
 
 -- so far these pieces of so many bytes in all were handed on
-pub record HandedOn (took : List (List ℕ) → Type 0) (old now : Option Told) (limit total : ℕ) : Type 0 where
+pub record HandedOn (took by_calls : List (List ℕ) → Type 0) (old now : Option Told) (limit total : ℕ) : Type 0 where
   pub pieces : List (List ℕ)
   pub handed : took pieces
+  pub calls : by_calls pieces
   pub some : All (λ piece. 0 < length piece) pieces
   pub size : length (concat pieces) ≡ total
   pub told : (t : Told) → old ≡ Some t → t.taken ≡ 0 → t.reads ≡ 0 → HearsSince limit t now pieces
@@ -49,7 +53,7 @@ concat-pieces_by s (suc k) =
     concat-append (pieces_by s k) (piece_of s k ∷ [])
     ∙ ap (λ z. z ++ (piece_of s k ++ [])) (concat-pieces_by s k)
     ∙ ap (λ z. take (taken_by s k) s.output ++ z) (append-nil (piece_of s k))
-    ∙ sym (take-add (taken_by s k) (read_size s (taken_by s k) k read_room) s.output)
+    ∙ sym (take-add (taken_by s k) (read_size s (taken_by s k) k READ_ROOM) s.output)
 
 -- their number of bytes
 pub long-of : (limit : ℕ) (t : Told) (pieces : List (List ℕ)) → Hearing limit t pieces → length (concat pieces) ≡ t.taken
@@ -125,10 +129,10 @@ module _ (s : Script) (input : List ℕ) (limit k : ℕ) where
   failed = read_fails s input k
 
   abbrev late : Bool
-  late = read_times_out s k
+  late = read_times_out s true k
 
   abbrev end : Bool
-  end = taken_by s k == length s.output
+  end = is_read s k
 
   abbrev long : Bool
   long = nat_lt limit (taken_by s (suc k))
@@ -169,16 +173,16 @@ pub some-read : (n m : ℕ) → n ≡ m → (m == 0) ≡ false → 0 < n
 some-read n m e z = grind (arith, nat_tests)
 
 -- one more read
-pub hears-next : (limit : ℕ) (t : Told) (pieces : List (List ℕ)) (buf : List ℕ) (n : ℕ) (new : Option Told) → limit < 2 ^ 32 → length buf ≡ read_room → Hearing limit t pieces → HeardAs t new (HeardBytes n) buf → length (concat pieces) ≤ limit → n ≤ limit - length (concat pieces) → Hearing limit (after_heard t n) (pieces ++ take n buf ∷ [])
+pub hears-next : (limit : ℕ) (t : Told) (pieces : List (List ℕ)) (buf : List ℕ) (n : ℕ) (new : Option Told) → limit < 2 ^ 32 → length buf ≡ READ_ROOM → Hearing limit t pieces → HeardAs t true new (HeardBytes n) buf → length (concat pieces) ≤ limit → n ≤ limit - length (concat pieces) → Hearing limit (after_heard t n) (pieces ++ take n buf ∷ [])
 hears-next limit t pieces buf n new small room h a le fits =
-    let p = picks-bytes (read_fails t.script t.written t.reads) (read_times_out t.script t.reads) (read_size t.script t.taken t.reads (length buf) == 0) (read_size t.script t.taken t.reads (length buf)) n a.answer in
-    let size : n ≡ read_size t.script t.taken t.reads read_room = p.3 ∙ ap (λ r. read_size t.script t.taken t.reads r) room in
+    let p = picks-bytes (read_fails t.script t.written t.reads) (read_times_out t.script true t.reads) (read_size t.script t.taken t.reads (length buf) == 0) (read_size t.script t.taken t.reads (length buf)) n a.answer in
+    let size : n ≡ read_size t.script t.taken t.reads READ_ROOM = p.3 ∙ ap (λ r. read_size t.script t.taken t.reads r) room in
     let long : length (concat pieces) ≡ t.taken = long-of limit t pieces h in
     let some : 0 < n = some-read n (read_size t.script t.taken t.reads (length buf)) p.3 p.2 in
     let up : count_up t.reads ≡ suc t.reads = count_up-few t.reads (omega (arith, h.few)) in
-    let next : t.taken + n ≡ taken_by t.script (suc t.reads) = ap (λ z. t.taken + z) size ∙ ap (λ z. z + read_size t.script z t.reads read_room) h.taken in
+    let next : t.taken + n ≡ taken_by t.script (suc t.reads) = ap (λ z. t.taken + z) size ∙ ap (λ z. z + read_size t.script z t.reads READ_ROOM) h.taken in
     let here : is_last t.script t.written limit t.reads ≡ false = last-not t.script t.written limit t.reads p.0 p.1 (rw (← h.taken) (more-left t.script t.taken t.reads (length buf) p.2 h.within)) (rw (← next) (grind (arith, nat_tests))) in
-    let piece : take n buf ≡ piece_of t.script t.reads = a.bytes ∙ ap (λ m. take m (drop t.taken t.script.output)) size ∙ ap (λ z. take (read_size t.script z t.reads read_room) (drop z t.script.output)) h.taken in
+    let piece : take n buf ≡ piece_of t.script t.reads = a.bytes ∙ ap (λ m. take m (drop t.taken t.script.output)) size ∙ ap (λ z. take (read_size t.script z t.reads READ_ROOM) (drop z t.script.output)) h.taken in
     record {
       taken = next ∙ ap (taken_by t.script) (sym up);
       within = omega (arith, h.within);
@@ -188,66 +192,66 @@ hears-next limit t pieces buf n new small room h a le fits =
     }
 
 -- the tests of a child's next read
-pub answer-of : (t : Told) (new : Option Told) (r : Heard) (buf : List ℕ) → length buf ≡ read_room → HeardAs t new r buf → r ≡ pick (read_fails t.script t.written t.reads) (read_times_out t.script t.reads) (read_size t.script t.taken t.reads read_room == 0) (read_size t.script t.taken t.reads read_room)
-answer-of t new r buf room a = a.answer ∙ ap (heard_of t) room
+pub answer-of : (t : Told) (new : Option Told) (r : Heard) (buf : List ℕ) → length buf ≡ READ_ROOM → HeardAs t true new r buf → r ≡ pick (read_fails t.script t.written t.reads) (read_times_out t.script true t.reads) (read_size t.script t.taken t.reads READ_ROOM == 0) (read_size t.script t.taken t.reads READ_ROOM)
+answer-of t new r buf room a = a.answer ∙ ap (heard_of t true) room
 
 pub exit-of : (limit : ℕ) (t0 : Told) (told : Option Told) (pieces : List (List ℕ)) (end : PieceEnd) (h : HearsSince limit t0 told pieces) → is_last h.now.script h.now.written limit h.now.reads ≡ true → end ≡ end_at h.now.script h.now.written h.now.reads → IsHeard t0.script t0.written limit pieces end
 exit-of limit t0 told pieces end h last at =
     subst (λ s. IsHeard s t0.written limit pieces end) h.script (subst (λ w. IsHeard h.now.script w limit pieces end) h.written (h.now.reads, (h.hearing.earlier, last), h.hearing.same, at))
 
-pub exit-failed : (limit : ℕ) (t0 : Told) (told new : Option Told) (pieces : List (List ℕ)) (buf : List ℕ) → length buf ≡ read_room → HearsSince limit t0 told pieces → HeardTold told new HeardFailed buf → IsHeard t0.script t0.written limit pieces (Cut false)
+pub exit-failed : (limit : ℕ) (t0 : Told) (told new : Option Told) (pieces : List (List ℕ)) (buf : List ℕ) → length buf ≡ READ_ROOM → HearsSince limit t0 told pieces → HeardTold told true new HeardFailed buf → IsHeard t0.script t0.written limit pieces (Cut false)
 exit-failed limit t0 told new pieces buf room h heard =
-    let a : HeardAs h.now new HeardFailed buf = rw h.told_now at heard in
+    let a : HeardAs h.now true new HeardFailed buf = rw h.told_now at heard in
     let l = last-failed h.now.script h.now.written limit h.now.reads (picks-failed _ _ _ _ (answer-of h.now new HeardFailed buf room a)) in
     exit-of limit t0 told pieces (Cut false) h l.0 l.1
 
-pub exit-timed_out : (limit : ℕ) (t0 : Told) (told new : Option Told) (pieces : List (List ℕ)) (buf : List ℕ) → length buf ≡ read_room → HearsSince limit t0 told pieces → HeardTold told new HeardTimedOut buf → IsHeard t0.script t0.written limit pieces (Cut true)
+pub exit-timed_out : (limit : ℕ) (t0 : Told) (told new : Option Told) (pieces : List (List ℕ)) (buf : List ℕ) → length buf ≡ READ_ROOM → HearsSince limit t0 told pieces → HeardTold told true new HeardTimedOut buf → IsHeard t0.script t0.written limit pieces (Cut true)
 exit-timed_out limit t0 told new pieces buf room h heard =
-    let a : HeardAs h.now new HeardTimedOut buf = rw h.told_now at heard in
+    let a : HeardAs h.now true new HeardTimedOut buf = rw h.told_now at heard in
     let p = picks-timed_out _ _ _ _ (answer-of h.now new HeardTimedOut buf room a) in
     let l = last-timed_out h.now.script h.now.written limit h.now.reads p.0 p.1 in
     exit-of limit t0 told pieces (Cut true) h l.0 l.1
 
-pub exit-long : (limit : ℕ) (t0 : Told) (told new : Option Told) (pieces : List (List ℕ)) (buf : List ℕ) (n : ℕ) → length buf ≡ read_room → HearsSince limit t0 told pieces → HeardTold told new (HeardBytes n) buf → length (concat pieces) ≤ limit → limit - length (concat pieces) < n → IsHeard t0.script t0.written limit pieces TooLong
+pub exit-long : (limit : ℕ) (t0 : Told) (told new : Option Told) (pieces : List (List ℕ)) (buf : List ℕ) (n : ℕ) → length buf ≡ READ_ROOM → HearsSince limit t0 told pieces → HeardTold told true new (HeardBytes n) buf → length (concat pieces) ≤ limit → limit - length (concat pieces) < n → IsHeard t0.script t0.written limit pieces TooLong
 exit-long limit t0 told new pieces buf n room h heard le more =
-    let a : HeardAs h.now new (HeardBytes n) buf = rw h.told_now at heard in
+    let a : HeardAs h.now true new (HeardBytes n) buf = rw h.told_now at heard in
     let p = picks-bytes _ _ _ _ n (answer-of h.now new (HeardBytes n) buf room a) in
     let s = h.now.script in
     let g = h.hearing in
     let long : length (concat pieces) ≡ h.now.taken = long-of limit h.now pieces g in
-    let next : h.now.taken + n ≡ taken_by s (suc h.now.reads) = ap (λ z. h.now.taken + z) p.3 ∙ ap (λ z. z + read_size s z h.now.reads read_room) g.taken in
-    let z = rw g.taken at (more-left s h.now.taken h.now.reads read_room p.2 g.within) in
+    let next : h.now.taken + n ≡ taken_by s (suc h.now.reads) = ap (λ z. h.now.taken + z) p.3 ∙ ap (λ z. z + read_size s z h.now.reads READ_ROOM) g.taken in
+    let z = rw g.taken at (more-left s h.now.taken h.now.reads READ_ROOM p.2 g.within) in
     let l = last-long s h.now.written limit h.now.reads p.0 p.1 z (rw (← next) (grind (arith, nat_tests))) in
     exit-of limit t0 told pieces TooLong h l.0 l.1
 
 -- at the end, all of the output was read
-pub all-read : (limit : ℕ) (t : Told) (new : Option Told) (pieces : List (List ℕ)) (buf : List ℕ) → length buf ≡ read_room → Hearing limit t pieces → HeardAs t new HeardEnd buf → (taken_by t.script t.reads == length t.script.output) ≡ true
+pub all-read : (limit : ℕ) (t : Told) (new : Option Told) (pieces : List (List ℕ)) (buf : List ℕ) → length buf ≡ READ_ROOM → Hearing limit t pieces → HeardAs t true new HeardEnd buf → (taken_by t.script t.reads == length t.script.output) ≡ true
 all-read limit t new pieces buf room h a =
     let p = picks-end _ _ _ _ (answer-of t new HeardEnd buf room a) in
-    let z = at-end t.script t.taken t.reads read_room (lit< tt) p.2 h.within in
+    let z = at-end t.script t.taken t.reads READ_ROOM (lit< tt) p.2 h.within in
     rw h.taken at z
 
-pub exit-ended : (limit : ℕ) (t0 : Told) (told new : Option Told) (pieces : List (List ℕ)) (buf : List ℕ) (exit : Exit) → length buf ≡ read_room → HearsSince limit t0 told pieces → HeardTold told new HeardEnd buf → WaitTold new (Ok exit) → IsHeard t0.script t0.written limit pieces (Ended exit)
+pub exit-ended : (limit : ℕ) (t0 : Told) (told new : Option Told) (pieces : List (List ℕ)) (buf : List ℕ) (exit : Exit) → length buf ≡ READ_ROOM → HearsSince limit t0 told pieces → HeardTold told true new HeardEnd buf → WaitTold new (Ok exit) → IsHeard t0.script t0.written limit pieces (Ended exit)
 exit-ended limit t0 told new pieces buf exit room h heard wait =
-    let a : HeardAs h.now new HeardEnd buf = rw h.told_now at heard in
+    let a : HeardAs h.now true new HeardEnd buf = rw h.told_now at heard in
     let p = picks-end _ _ _ _ (answer-of h.now new HeardEnd buf room a) in
     let e = all-read limit h.now new pieces buf room h.hearing a in
     let w = rw a.after at wait in
     let l = last-ended h.now.script h.now.written limit h.now.reads p.0 p.1 e w.1 in
     exit-of limit t0 told pieces (Ended exit) h l.0 (rw w.0 l.1)
 
-pub exit-wait : (limit : ℕ) (t0 : Told) (told new : Option Told) (pieces : List (List ℕ)) (buf : List ℕ) (failed : Failed) → length buf ≡ read_room → HearsSince limit t0 told pieces → HeardTold told new HeardEnd buf → WaitTold new (Err failed) → IsHeard t0.script t0.written limit pieces WaitFailed
+pub exit-wait : (limit : ℕ) (t0 : Told) (told new : Option Told) (pieces : List (List ℕ)) (buf : List ℕ) (failed : Failed) → length buf ≡ READ_ROOM → HearsSince limit t0 told pieces → HeardTold told true new HeardEnd buf → WaitTold new (Err failed) → IsHeard t0.script t0.written limit pieces WaitFailed
 exit-wait limit t0 told new pieces buf failed room h heard wait =
-    let a : HeardAs h.now new HeardEnd buf = rw h.told_now at heard in
+    let a : HeardAs h.now true new HeardEnd buf = rw h.told_now at heard in
     let p = picks-end _ _ _ _ (answer-of h.now new HeardEnd buf room a) in
     let e = all-read limit h.now new pieces buf room h.hearing a in
     let w = rw a.after at wait in
     let l = last-wait h.now.script h.now.written limit h.now.reads p.0 p.1 e w in
     exit-of limit t0 told pieces WaitFailed h l.0 l.1
 
-pub hears-since-next : (limit : ℕ) (t0 : Told) (told new : Option Told) (pieces : List (List ℕ)) (buf : List ℕ) (n : ℕ) → limit < 2 ^ 32 → length buf ≡ read_room → HearsSince limit t0 told pieces → HeardTold told new (HeardBytes n) buf → length (concat pieces) ≤ limit → n ≤ limit - length (concat pieces) → HearsSince limit t0 new (pieces ++ take n buf ∷ [])
+pub hears-since-next : (limit : ℕ) (t0 : Told) (told new : Option Told) (pieces : List (List ℕ)) (buf : List ℕ) (n : ℕ) → limit < 2 ^ 32 → length buf ≡ READ_ROOM → HearsSince limit t0 told pieces → HeardTold told true new (HeardBytes n) buf → length (concat pieces) ≤ limit → n ≤ limit - length (concat pieces) → HearsSince limit t0 new (pieces ++ take n buf ∷ [])
 hears-since-next limit t0 told new pieces buf n small room h heard le fits =
-    let a : HeardAs h.now new (HeardBytes n) buf = rw h.told_now at heard in
+    let a : HeardAs h.now true new (HeardBytes n) buf = rw h.told_now at heard in
     record {
       now = after_heard h.now n;
       told_now = a.after;
@@ -272,21 +276,30 @@ hears-fresh limit t0 told e n r = record {
   };
 }
 
-pub handed-none : (took : List (List ℕ) → Type 0) (old : Option Told) (limit : ℕ) → took [] → HandedOn took old old limit 0
-handed-none took old limit h = record { pieces = []; handed = h; some = All-nil (λ piece. 0 < length piece); size = refl; told = λ t e n r. hears-fresh limit t old e n r }
+pub handed-none : (took calls : List (List ℕ) → Type 0) (old : Option Told) (limit : ℕ) → took [] → calls [] → HandedOn took calls old old limit 0
+handed-none took calls old limit h so = record { pieces = []; handed = h; calls = so; some = All-nil (λ piece. 0 < length piece); size = refl; told = λ t e n r. hears-fresh limit t old e n r }
 
 -- one more piece was handed on
-pub handed-next : (took more : List (List ℕ) → Type 0) (old now new : Option Told) (limit total n : ℕ) (buf : List ℕ) → limit < 2 ^ 32 → length buf ≡ read_room → 0 < n → n ≤ length buf → total ≤ limit → n ≤ limit - total → (h : HandedOn took old now limit total) → HeardTold now new (HeardBytes n) buf → ((pieces : List (List ℕ)) → took pieces → more (pieces ++ take n buf ∷ [])) → HandedOn more old new limit (total + n)
-handed-next took more old now new limit total n buf small room some bound le fits h heard takes =
+pub handed-next : (took more calls next : List (List ℕ) → Type 0) (old now new : Option Told) (limit total n : ℕ) (buf : List ℕ) → limit < 2 ^ 32 → length buf ≡ READ_ROOM → 0 < n → n ≤ length buf → total ≤ limit → n ≤ limit - total → (h : HandedOn took calls old now limit total) → HeardTold now true new (HeardBytes n) buf
+    → ((pieces : List (List ℕ)) → took pieces → more (pieces ++ take n buf ∷ [])) → ((pieces : List (List ℕ)) → calls pieces → next (pieces ++ take n buf ∷ [])) → HandedOn more next old new limit (total + n)
+handed-next took more calls next old now new limit total n buf small room some bound le fits h heard takes reads =
     let size : length (take n buf) ≡ n = grind (arith, common_steps) in
     record {
       pieces = h.pieces ++ take n buf ∷ [];
       handed = takes h.pieces h.handed;
+      calls = reads h.pieces h.calls;
       some = All-push (λ piece. 0 < length piece) h.pieces (take n buf) h.some (rw size some);
       size = ap length (concat-append h.pieces (take n buf ∷ [])) ∙ grind (arith, common_steps, h.size, size);
       told = λ t e i r. hears-since-next limit t now new h.pieces buf n small room (h.told t e i r) heard (rw h.size le) (rw h.size fits);
     }
 
 -- the bytes in all, by an end of the hearing
-pub heard-of : (took : List (List ℕ) → Type 0) (old now : Option Told) (limit total : ℕ) (end : PieceEnd) → total ≤ limit → (h : HandedOn took old now limit total) → ((t : Told) → HearsSince limit t now h.pieces → IsHeard t.script t.written limit h.pieces end) → HeardPieces took old limit end
-heard-of took old now limit total end le h ends = record { pieces = h.pieces; handed = h.handed; some = h.some; within = rw h.size le; told = λ t e n r. ends t (h.told t e n r) }
+pub heard-of : (took calls ended : List (List ℕ) → Type 0) (old now : Option Told) (limit total : ℕ) (end : PieceEnd) → total ≤ limit → (h : HandedOn took calls old now limit total) → (calls h.pieces → ended h.pieces)
+    → ((t : Told) → HearsSince limit t now h.pieces → IsHeard t.script t.written limit h.pieces end) → HearsPieces took limit (HearTold old limit end) ended
+heard-of took calls ended old now limit total end le h reads ends = record { pieces = h.pieces; handed = h.handed; some = h.some; within = rw h.size le; told = λ t e n r. ends t (h.told t e n r); calls = reads h.calls }
+
+-- a piece that goes past the limit
+pub long-piece : (limit total n : ℕ) (pieces : List (List ℕ)) (buf : List ℕ) → length (concat pieces) ≡ total → total ≤ limit → n ≤ length buf → limit - total < n → limit < length (concat pieces) + length (take n buf)
+long-piece limit total n pieces buf size within bound more =
+    let long : length (take n buf) ≡ n = grind (arith, common_steps) in
+    omega (arith, size, within, more, long)

@@ -1,5 +1,9 @@
+pub mod Calls
 pub mod Gathers
 pub mod Outcomes
 pub mod Pieces
+pub mod Runs
+pub mod System
 pub mod Told
 pub mod Words
+pub mod steps

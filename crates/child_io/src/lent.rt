@@ -7,6 +7,8 @@ impl<S: Spawner> Spawner for &mut S {
 
     ghost ran = { S.ran };
 
+    ghost started = { λ old words c new. S.started old.now words c new.now };
+
     ghost scripts = { λ s. S.scripts s.now };
 
     ghost start_faults = { λ s. S.start_faults s.now };

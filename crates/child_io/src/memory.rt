@@ -2,7 +2,7 @@
 ghost use Rattle.std.specs.Prelude.{◌≡◌, ◌<◌, ◌≤◌, ℕ, length, take, Some, []};
 ghost use Rattle.std.specs.List.{list_any};
 ghost use Rattle.std.specs.Str.{bytes_eq};
-ghost use Rattle.child_io.specs.Told.{is_accepted};
+ghost use Rattle.child_io.specs.Told.{is_accepted, told_of};
 
 use crate::child::{Child, Heard, Script, Spawner, StartFault};
 use dict_io::memory::piece_size;
@@ -34,22 +34,24 @@ pub struct MemoryChild {
     writes: u64,
     faults: u64,
     closed: bool,
+    ended: bool,
     ghost room: { length input ≡ script.room },
     ghost used_within: { used ≤ length input },
     ghost at_within: { at ≤ length script.output },
 }
 
 impl Child for MemoryChild {
-    ghost use Rattle.std.specs.Prelude.{◌≡◌, ◌<◌, ◌≤◌, ℕ, length, take, Some, []};
-    ghost use Rattle.child_io.specs.declared.child.How.{How};
-
-    ghost told = { λ c. Some (record { script = c.script; written = take c.used c.input; taken = c.at; reads = c.reads; writes = c.writes }) };
+    ghost told = { λ c. Some (told_of c.script (take c.used c.input) c.at c.reads c.writes) };
 
     ghost closed = { λ c. c.closed };
+
+    ghost ended = { λ c. c.ended };
 
     ghost faults = { λ c. c.faults };
 
     ghost broke = { λ how. Unit {0} };
+
+    ghost history = { λ first acts now. Unit {0} };
 
     fn write(&mut self, piece: &[u8]) -> Put {
         let call = self.writes;
@@ -81,13 +83,15 @@ impl Child for MemoryChild {
             self.faults = self.faults.saturating_add(1);
             return Heard::Failed;
         }
-        if self.script.timed_out_reads.as_slice().contains(&call) {
+        let waits = self.script.after_close && !self.closed;
+        if waits || self.script.timed_out_reads.as_slice().contains(&call) {
             self.faults = self.faults.saturating_add(1);
             return Heard::TimedOut;
         }
         let rest = &self.script.output.as_slice()[self.at..];
         let count = piece_size(&self.script.sizes, call, buf.len()).min(rest.len());
         if count == 0 {
+            self.ended = true;
             return Heard::End;
         }
         buf[..count].copy_from_slice(&rest[..count]);
@@ -130,6 +134,8 @@ impl Spawner for MemorySpawner {
 
     ghost ran = { λ words output exit. Unit {0} };
 
+    ghost started = { λ old words c new. Unit {0} };
+
     ghost scripts = { λ s. Some s.scripts };
 
     ghost start_faults = { λ s. s.faults };
@@ -153,6 +159,7 @@ impl Spawner for MemorySpawner {
                 writes: 0,
                 faults: 0,
                 closed: false,
+                ended: false,
             }),
             Err(_) => Err(StartFault::NoMemory),
         }

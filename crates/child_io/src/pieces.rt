@@ -1,5 +1,5 @@
 // Who is handed a child's output, piece by piece.
-ghost use Rattle.std.specs.Prelude.{◌≡◌, ℕ, List, [], ◌∷◌, ◌++◌, if◌then◌else◌};
+ghost use Rattle.std.specs.Prelude.{◌≡◌, ℕ, List, [], ◌∷◌, ◌++◌, if◌then◌else◌, false};
 ghost use Rattle.child_io.specs.Pieces.{HasRoomFor};
 
 use crate::child::Outcome;
@@ -28,6 +28,7 @@ pub trait Pieces {
 #[derive(Clone, Copy, Debug, PartialEq, Eq)]
 pub enum PieceEnd {
     NotStarted,
+    WriteFailed,
     Cut { timed_out: bool },
     TooLong,
     WaitFailed,
@@ -48,7 +49,8 @@ impl Gathered {
     ghost use Rattle.child_io.specs.Gathers.{Gathers, gathered_outcome};
 
     pub fn new(alloc: Global) -> Gathered
-        ensures { Gathers result [] }
+        ensures none { Gathers result [] }
+        ensures kept { result.lost ≡ false }
     {
         Gathered {
             bytes: Bytes::new(alloc),
@@ -67,6 +69,7 @@ impl Gathered {
         }
         match end {
             PieceEnd::NotStarted => Outcome::NotStarted,
+            PieceEnd::WriteFailed => Outcome::WriteFailed,
             PieceEnd::Cut { timed_out } => Outcome::Cut { bytes, timed_out },
             PieceEnd::TooLong => Outcome::TooLong,
             PieceEnd::WaitFailed => Outcome::WaitFailed(bytes),

@@ -1,8 +1,12 @@
 // One child, from its start to its end.
-ghost use Rattle.std.specs.Prelude.{◌≡◌, ◌≢◌, ◌<◌, ◌≤◌, ℕ, List, [], length, IsErr, IsTrue};
+ghost use Rattle.std.specs.Prelude.{◌≡◌, ◌≢◌, ◌<◌, ◌≤◌, ℕ, List, [], length, false, IsErr, IsTrue};
 ghost use Rattle.dict_io.specs.Outside.{HasCause};
+ghost use Rattle.child_io.specs.Gathers.{IsWhole};
+ghost use Rattle.child_io.specs.Runs.{EndBroke, EndFails, HandsOn, order_of, RanChild, RanToEnd, RunTold};
 ghost use Rattle.child_io.specs.declared.child.How.{How};
-ghost use Rattle.child_io.specs.Outcomes.{FeedTold, HeardPieces, RunTold, ChildRun, RunInPieces, BrokeAs, EndBroke, ChildFails, EndFails, RoseOnce, RanToEnd, WasRead, EndWasRead};
+ghost use Rattle.child_io.specs.declared.pieces.PieceEnd.{PieceEnd as EndOf};
+ghost use Rattle.child_io.specs.steps.Fed.{FeedCalls, FeedTold};
+ghost use Rattle.child_io.specs.steps.Heard.{HearCalls, HearsPieces, HearTold};
 
 use crate::child::{Child, Heard, Outcome, Spawner, StartFault};
 use crate::pieces::{Gathered, PieceEnd, Pieces};
@@ -10,10 +14,19 @@ use dict_io::{Failed, Put};
 use dict_value::Bytes;
 use std::alloc::Global;
 
+#[cfg(test)]
+mod tests;
+
+/// The room that each read of a child offers.
+pub const READ_ROOM: usize = 65_536;
+
 /// Writes the whole input into a child.
 fn feed<C: Child>(child: &mut C, input: &[u8]) -> Result<(), Failed>
     ensures told { FeedTold (C.told child.old) (C.told child.new) input.now result }
+    ensures calls { FeedCalls C.history child.old input.now result child.new }
     ensures broke { IsErr result → C.broke How.Write }
+    ensures some { IsErr result → input.now ≢ [] }
+    ensures ended { C.ended child.new ≡ C.ended child.old }
     ensures cause { HasCause (C.faults child.old) (C.faults child.new) (IsErr result) }
 {
     let mut done = 0;
@@ -29,17 +42,19 @@ fn feed<C: Child>(child: &mut C, input: &[u8]) -> Result<(), Failed>
 /// Reads a child to its end, hands each read's bytes on, and waits for it.
 fn hear<C: Child, P: Pieces>(child: &mut C, limit: u32, read_ms: u32, out: &mut P) -> PieceEnd
     requires closed { IsTrue (C.closed child.old) }
+    requires open { C.ended child.old ≡ false }
     requires unheard { P.took out.old [] }
-    ensures heard { HeardPieces (P.took out.new) (C.told child.old) limit result }
+    ensures heard { HearsPieces (P.took out.new) limit (HearTold (C.told child.old) limit result)
+        (HearCalls C.history child.old limit read_ms result child.new) }
     ensures kept { P.kept out.new ≡ P.kept out.old }
     ensures broke { EndBroke C.broke result }
-    ensures started { result ≢ PieceEnd.NotStarted }
-    ensures had_memory { result ≢ PieceEnd.NoMemory }
-    ensures asked { C.asked read_ms }
     ensures cause { HasCause (C.faults child.old) (C.faults child.new) (EndFails result) }
+    ensures started { result ≢ PieceEnd.NotStarted }
+    ensures written { result ≢ PieceEnd.WriteFailed }
+    ensures had_memory { result ≢ PieceEnd.NoMemory }
 {
     let limit = limit as usize;
-    let mut buf = [0; 65536];
+    let mut buf = [0; READ_ROOM];
     let mut total = 0;
     loop {
         match child.read(&mut buf, read_ms) {
@@ -62,22 +77,26 @@ fn hear<C: Child, P: Pieces>(child: &mut C, limit: u32, read_ms: u32, out: &mut 
     }
 }
 
-/// Starts a child without input, reads it to the end, hands each read's bytes on in order, and then
-/// waits for it. A piece that goes past the limit isn't handed on.
+/// Starts a child, writes the input, closes it, reads to the end, hands each read's bytes on in order,
+/// and then waits for it. A piece that goes past the limit isn't handed on.
 pub fn run_pieces<S: Spawner, P: Pieces>(
     spawner: &mut S,
     words: &[Bytes],
+    input: &[u8],
     limit: u32,
     read_ms: u32,
     out: &mut P,
 ) -> PieceEnd
     requires { P.took out.old [] }
-    ensures pieces { RunInPieces (P.took out.new) (S.scripts spawner.old) (S.scripts spawner.new) S.C.told S.ran words.now limit result }
+    ensures run { let order = order_of words.now input.now limit read_ms in
+        HandsOn (P.took out.new) limit
+        (RunTold (S.scripts spawner.old) (S.scripts spawner.new) input.now limit result)
+        (RanChild S.started S.C.told S.C.history S.C.faults order spawner.old spawner.new result)
+        (RanToEnd S.ran words.now result) }
     ensures kept { P.kept out.new ≡ P.kept out.old }
-    ensures cause { HasCause (S.start_faults spawner.old) (S.start_faults spawner.new) (result ≡ PieceEnd.NotStarted) }
     ensures broke { EndBroke S.C.broke result }
-    ensures child_rose { EndFails result → RoseOnce S.C.faults }
-    ensures asked { EndWasRead result → S.C.asked read_ms }
+    ensures cause { HasCause (S.start_faults spawner.old) (S.start_faults spawner.new) (result ≡ PieceEnd.NotStarted) }
+    ensures written { result ≡ PieceEnd.WriteFailed → input.now ≢ [] }
     ensures not_started { result ≡ PieceEnd.NotStarted → out.new ≡ out.old }
     ensures no_memory { result ≡ PieceEnd.NoMemory → out.new ≡ out.old }
 {
@@ -86,6 +105,10 @@ pub fn run_pieces<S: Spawner, P: Pieces>(
         Err(StartFault::Failed) => return PieceEnd::NotStarted,
         Err(StartFault::NoMemory) => return PieceEnd::NoMemory,
     };
+    match feed(&mut child, input) {
+        Ok(()) => {}
+        Err(_) => return PieceEnd::WriteFailed,
+    }
     child.close_input();
     hear(&mut child, limit, read_ms, out)
 }
@@ -99,26 +122,14 @@ pub fn run_whole<S: Spawner>(
     limit: u32,
     read_ms: u32,
 ) -> Outcome
-    requires { input.now ≡ [] }
-    ensures told { RunTold (S.scripts spawner.old) (S.scripts spawner.new) input.now limit result }
-    ensures child { ChildRun S.C.told input.now limit result }
+    ensures run { let order = order_of words.now input.now limit read_ms in
+        (end : EndOf) × EndBroke S.C.broke end × HandsOn (IsWhole result end) limit
+        (RunTold (S.scripts spawner.old) (S.scripts spawner.new) input.now limit end)
+        (RanChild S.started S.C.told S.C.history S.C.faults order spawner.old spawner.new end)
+        (RanToEnd S.ran words.now end) }
     ensures cause { HasCause (S.start_faults spawner.old) (S.start_faults spawner.new) (result ≡ Outcome.NotStarted) }
-    ensures broke { BrokeAs S.C.broke result }
-    ensures child_rose { ChildFails result → RoseOnce S.C.faults }
-    ensures asked { WasRead result → S.C.asked read_ms }
-    ensures ran { RanToEnd S.ran words.now result }
 {
-    let mut child = match spawner.start(words) {
-        Ok(child) => child,
-        Err(StartFault::Failed) => return Outcome::NotStarted,
-        Err(StartFault::NoMemory) => return Outcome::NoMemory,
-    };
-    match feed(&mut child, input) {
-        Ok(()) => {}
-        Err(_) => return Outcome::WriteFailed,
-    }
-    child.close_input();
     let mut gathered = Gathered::new(alloc);
-    let end = hear(&mut child, limit, read_ms, &mut gathered);
+    let end = run_pieces(spawner, words, input, limit, read_ms, &mut gathered);
     gathered.outcome(end)
 }

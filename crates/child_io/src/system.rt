@@ -1,19 +1,24 @@
 // Real programs over pipes, a few lines. Nothing here tells what they read or print.
-ghost use Rattle.std.specs.Prelude.{◌≡◌, None};
+ghost use Rattle.std.specs.Prelude.{◌≡◌, None, IfOk, false};
+ghost use Rattle.child_io.specs.System.{heard_got, WaitsAs};
 
 use crate::child::{Child, Heard, Spawner, StartFault};
-use dict_io::{Failed, Put};
+use dict_io::{Failed, Got, Put, read_from, write_to};
 use dict_value::{Bytes, Exit};
 use std::alloc::Global;
-use std::io::{ErrorKind, Read, Write};
-use std::process::{Command, OpenProcess, Processes, Stdio};
-use std::{process, str};
+use std::io::ErrorKind;
+use std::process::{Command, ExitStatus, OpenProcess, Processes, Stdio};
+use std::{io, process, str};
+
+#[cfg(test)]
+mod tests;
 
 /// A real program. Where it is dropped its pipes are closed; it is neither ended nor waited for, but
 /// one that has ended by then is taken off the system's list.
 pub struct OsChild<P: OpenProcess + Drop> {
     child: process::Child<P>,
     closed: bool,
+    ended: bool,
     faults: u64,
 }
 
@@ -22,6 +27,7 @@ impl<P: OpenProcess + Drop> Drop for OsChild<P> {
         let OsChild {
             mut child,
             closed: _,
+            ended: _,
             faults: _,
         } = self;
         drop(child.stdin.take());
@@ -35,20 +41,23 @@ impl<P: OpenProcess + Drop> Child for OsChild<P> {
 
     ghost closed = { λ c. c.closed };
 
+    ghost ended = { λ c. c.ended };
+
     ghost faults = { λ c. c.faults };
 
     ghost broke = { λ how. Unit {0} };
 
+    ghost history = { λ first acts now. Unit {0} };
+
     fn write(&mut self, piece: &[u8]) -> Put {
         let put = match &mut self.child.stdin {
-            Some(input) => input.write(piece).unwrap_or(0),
-            None => 0,
+            Some(input) => write_to(input, piece),
+            None => Put::Failed,
         };
-        if put > 0 {
-            return Put::Bytes(put);
+        if put == Put::Failed {
+            self.faults = self.faults.saturating_add(1);
         }
-        self.faults = self.faults.saturating_add(1);
-        Put::Failed
+        put
     }
 
     fn close_input(&mut self) {
@@ -59,30 +68,47 @@ impl<P: OpenProcess + Drop> Child for OsChild<P> {
     /// A real child meets no read limit yet.
     fn read(&mut self, buf: &mut [u8], _limit_ms: u32) -> Heard {
         let got = match &mut self.child.stdout {
-            Some(output) => output.read(buf).ok(),
-            None => None,
+            Some(output) => read_from(output, buf),
+            None => Got::Failed,
         };
         match got {
-            Some(0) => Heard::End,
-            Some(count) => Heard::Bytes(count),
-            None => {
-                self.faults = self.faults.saturating_add(1);
-                Heard::Failed
-            }
+            Got::Bytes(_) => {}
+            Got::End => self.ended = true,
+            Got::Failed => self.faults = self.faults.saturating_add(1),
         }
+        heard(got)
     }
 
     fn wait(&mut self) -> Result<Exit, Failed> {
-        match self.child.wait() {
-            Ok(status) => Ok(match status.code() {
-                Some(code) => Exit::Code(code),
-                None => Exit::Killed,
-            }),
-            Err(_) => {
-                self.faults = self.faults.saturating_add(1);
-                Err(Failed)
-            }
+        let exit = exit_by(self.child.wait());
+        if exit.is_err() {
+            self.faults = self.faults.saturating_add(1);
         }
+        exit
+    }
+}
+
+/// What a read of the output gave, as that of a child that meets no limit.
+fn heard(got: Got) -> Heard
+    ensures { result ≡ heard_got got }
+{
+    match got {
+        Got::Bytes(count) => Heard::Bytes(count),
+        Got::End => Heard::End,
+        Got::Failed => Heard::Failed,
+    }
+}
+
+/// How a child ended that was waited for; one without a code was killed.
+fn exit_by(waited: io::Result<ExitStatus>) -> Result<Exit, Failed>
+    ensures { WaitsAs waited result }
+{
+    match waited {
+        Ok(status) => Ok(match status.code() {
+            Some(code) => Exit::Code(code),
+            None => Exit::Killed,
+        }),
+        Err(_) => Err(Failed),
     }
 }
 
@@ -111,6 +137,8 @@ impl<R: Processes> Spawner for OsSpawner<'_, R> {
 
     ghost ran = { λ words output exit. Unit {0} };
 
+    ghost started = { λ old words c new. Unit {0} };
+
     ghost scripts = { λ s. None };
 
     ghost start_faults = { λ s. s.faults };
@@ -129,7 +157,9 @@ fn start_program<R: Processes>(
     rt: &R,
     alloc: Global,
     words: &[Bytes],
-) -> Result<OsChild<R::Started>, StartFault> {
+) -> Result<OsChild<R::Started>, StartFault>
+    ensures { IfOk result (λ child. child.ended ≡ false) }
+{
     let Some((program, arguments)) = words.split_first() else {
         return Err(StartFault::Failed);
     };
@@ -142,6 +172,7 @@ fn start_program<R: Processes>(
         Ok(child) => Ok(OsChild {
             child,
             closed: false,
+            ended: false,
             faults: 0,
         }),
         Err(fault) if fault.kind() == ErrorKind::OutOfMemory => Err(StartFault::NoMemory),

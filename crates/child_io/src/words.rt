@@ -1,11 +1,15 @@
 // The words that a child is started with.
-ghost use Rattle.std.specs.Prelude.{◌≡◌, ◌≢◌, ◌++◌, IfOk, MatchOption, if◌then◌else◌, codes};
+ghost use Rattle.std.specs.Prelude.{◌≡◌, ◌≢◌, IfOk, MatchOption, if◌then◌else◌};
 ghost use Rattle.std.specs.List.{All};
-ghost use Rattle.child_io.specs.Words.{is_blank, words_in, in_folder, source_words, IsLastSlash, IsFolder};
+ghost use Rattle.child_io.specs.Words.{in_folder, is_blank_byte, program_in, source_words, words_in};
+ghost use Rattle.child_io.specs.Words.{IsFolder, IsLastSlash};
 
 use dict_schema::SourceOf;
 use dict_value::{Bytes, ListOf, NoMemory};
 use std::alloc::Global;
+
+#[cfg(test)]
+mod tests;
 
 /// The words to start a source's program with. A command of blanks alone, which no sound definition
 /// has, gives no words where it is run directly.
@@ -25,7 +29,7 @@ pub fn words_of(alloc: Global, s: &SourceOf, folder: &[u8]) -> Result<ListOf<Byt
 
 /// A space or a tab.
 fn blank(byte: u8) -> bool
-    ensures { result ≡ is_blank byte }
+    ensures { result ≡ is_blank_byte byte }
 {
     byte == b' ' || byte == b'\t'
 }
@@ -47,7 +51,7 @@ fn direct_words(alloc: Global, command: &[u8], folder: &[u8]) -> Result<ListOf<B
 
 /// The word of a part; the first one is a program of the folder's `user_scripts`.
 fn word_of(alloc: Global, folder: &[u8], part: &[u8], first: bool) -> Result<Bytes, NoMemory>
-    ensures { IfOk result (λ word. word ≡ (if first then folder.now ++ codes "/user_scripts/" ++ part.now else part.now)) }
+    ensures { IfOk result (λ word. word ≡ (if first then program_in folder.now part.now else part.now)) }
 {
     if !first {
         return Bytes::copy_of(alloc, part);

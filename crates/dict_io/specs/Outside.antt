@@ -1,5 +1,6 @@
 -- What the calls of the traits of the outside do.
-use Rattle.std.specs.Prelude.{◌≡◌, ◌<◌, ℕ, ◌+◌, ◌-◌, ◌^◌, ◌≤◌, min, List, [], ◌∷◌, length, take, Option, Some, None, Result, Ok, Err, ⊤, IfSome}
+use Rattle.std.specs.Prelude.{◌≡◌, ◌<◌, ℕ, ◌+◌, ◌-◌, ◌^◌, ◌≤◌, min, List, [], ◌∷◌, length, take, ⊤}
+use Rattle.std.specs.Prelude.{Bool, true, false, Option, Some, None, Result, Ok, Err, IfSome}
 use Rattle.std.specs.Io.KnownBytes.{prepend_known, append_known}
 use Rattle.dict_io.specs.declared.outside.Got.{Got}
 use Rattle.dict_io.specs.declared.outside.Got.TheVariants.{Bytes as GotBytes, End as GotEnd, Failed as GotFailed}
@@ -8,27 +9,45 @@ use Rattle.dict_io.specs.declared.outside.Put.TheVariants.{Bytes as PutBytes, Fa
 use Rattle.dict_io.specs.declared.outside.Failed.{Failed}
 use Rattle.dict_io.specs.declared.outside.ShelfFault.{ShelfFault}
 use Rattle.dict_io.specs.declared.outside.ShelfFault.TheVariants.{Failed as ShelfFailed, TooLong, NoMemory}
+use Rattle.dict_io.specs.declared.outside.TheConstants.{LAST_MOMENT}
+
+-- one more call, in a count that stands still at its end
+abbrev pub count_up : ℕ → ℕ
+count_up count = min (count + 1) (2 ^ 64 - 1)
 
 -- a count rose, or stands at its end
 abbrev pub Rose : ℕ → ℕ → Type 0
-Rose before now = min (before + 1) (2 ^ 64 - 1) ≤ now
+Rose before now = count_up before ≤ now
 
 -- a count of faults never falls, and it rose where this failed
-pub record HasCause (before now : ℕ) (failed : Type 0) : Type 0 where
+pub record RoseWhere (before now : ℕ) (failed : Type 0) : Type 0 where
   pub later : before ≤ now
   pub rose : failed → Rose before now
 
--- one side of a link: its known bytes, and its count of faults
+-- a count of faults rose where this failed, and it is as it was where this didn't
+pub record HasCause (before now : ℕ) (failed : Type 0) : Type 0 where
+  pub later : before ≤ now
+  pub rose : failed → Rose before now
+  pub still : ¬ failed → now ≡ before
+
+-- one side of a link: its known bytes, its count of faults, and whether it came to its end
 pub record Side : Type 0 where
   pub known : Option (List ℕ)
   pub faults : ℕ
+  pub ended : Bool
 
-abbrev pub side : Option (List ℕ) → ℕ → Side
-side known faults = record { known = known; faults = faults }
+abbrev pub side : Option (List ℕ) → ℕ → Bool → Side
+side known faults ended = record { known = known; faults = faults; ended = ended }
 
 -- an object of one side alone
 abbrev pub no_side : Side
-no_side = side None 0
+no_side = side None 0 false
+
+-- a read found the end
+abbrev pub is_end : Got → Bool
+is_end (GotBytes n) = false
+is_end GotEnd = true
+is_end GotFailed = false
 
 -- a read gave at least one byte, and not more than there was room for
 abbrev pub GotWithin : Got → List ℕ → Type 0
@@ -70,9 +89,13 @@ ReadsFile None limit r = ⊤
 ReadsFile (Some None) limit r = r ≡ Err ShelfFailed
 ReadsFile (Some (Some text)) limit r = ReadsText text limit r
 
+-- a moment as it is read: one past the last is the last
+abbrev pub moment_of : ℕ → ℕ
+moment_of moment = min moment LAST_MOMENT
+
 -- the next moment, and the last one stays
 abbrev pub NextMoment : Option (List ℕ) → Option (List ℕ) → ℕ → Type 0
 NextMoment None new now = new ≡ None
 NextMoment (Some []) new now = new ≡ Some []
-NextMoment (Some (x ∷ [])) new now = (now ≡ x) × (new ≡ Some (x ∷ []))
-NextMoment (Some (x ∷ y ∷ rest)) new now = (now ≡ x) × (new ≡ Some (y ∷ rest))
+NextMoment (Some (x ∷ [])) new now = (now ≡ moment_of x) × (new ≡ Some (x ∷ []))
+NextMoment (Some (x ∷ y ∷ rest)) new now = (now ≡ moment_of x) × (new ≡ Some (y ∷ rest))

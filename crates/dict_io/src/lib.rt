@@ -1,20 +1,19 @@
 //! What the program meets outside itself, as traits: sources of bytes, sinks of bytes, files and the
 //! clock, with objects in memory that meet them and thin real ones over the runtime.
 //!
-//! It promises that a fault is answered only where the object's count of faults rose in that call,
-//! and that where an object tells its bytes, a read gives the next of them and a write appends.
+//! It promises that a call which answers a fault raises the object's count of faults, and that any
+//! other leaves it; that nothing is read behind an end; and that where an object tells its bytes, a
+//! read gives the next of them and a write appends.
 #![tactic(auto)]
 
 pub mod memory;
 pub mod outside;
 pub mod real;
 pub mod shelf;
-#[cfg(test)]
-mod tests;
 
 pub use memory::{MemoryClock, MemorySink, MemorySource};
 pub use outside::{
     Clock, Failed, Got, LAST_MOMENT, Put, Shelf, ShelfFault, Sink, Source, write_all,
 };
-pub use real::{FileShelf, StdSink, StdSource, SystemClock};
+pub use real::{FileShelf, StdSink, StdSource, SystemClock, read_from, write_to};
 pub use shelf::{MemoryShelf, NamedFile};

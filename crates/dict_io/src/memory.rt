@@ -1,11 +1,14 @@
 // A source, a sink and a clock in memory, which tell what they hold.
-ghost use Rattle.std.specs.Prelude.{◌≡◌, ◌<◌, ◌≤◌, length, drop, Some, IfOk, []};
+ghost use Rattle.std.specs.Prelude.{◌≡◌, ◌<◌, ◌≤◌, length, drop, Some, IfOk, [], false};
 ghost use Rattle.dict_io.specs.Memory.{size_at};
 ghost use Rattle.dict_io.specs.Outside.{no_side};
 
-use crate::outside::{Clock, Got, Put, Sink, Source};
+use crate::outside::{Clock, Got, LAST_MOMENT, Put, Sink, Source};
 use dict_value::{Bytes, ListOf, NoMemory};
 use std::alloc::Global;
+
+#[cfg(test)]
+mod tests;
 
 /// Bytes that are read piece by piece.
 #[derive(Drop)]
@@ -16,6 +19,7 @@ pub struct MemorySource {
     failing: ListOf<u64>,
     calls: u64,
     faults: u64,
+    ended: bool,
     ghost within: { at ≤ length text },
 }
 
@@ -38,6 +42,7 @@ impl MemorySource {
     pub fn new(left: Bytes, sizes: ListOf<u32>, failing: ListOf<u64>) -> MemorySource
         ensures left { ⟦<MemorySource as Source>⟧.left result ≡ Some left }
         ensures faults { ⟦<MemorySource as Source>⟧.read_faults result ≡ 0 }
+        ensures open { ⟦<MemorySource as Source>⟧.ended result ≡ false }
     {
         MemorySource {
             text: left,
@@ -46,6 +51,7 @@ impl MemorySource {
             failing,
             calls: 0,
             faults: 0,
+            ended: false,
         }
     }
 }
@@ -54,6 +60,8 @@ impl Source for MemorySource {
     ghost left = { λ s. Some (drop s.at s.text) };
 
     ghost read_faults = { λ s. s.faults };
+
+    ghost ended = { λ s. s.ended };
 
     ghost kept_by_read = { λ s. no_side };
 
@@ -67,6 +75,7 @@ impl Source for MemorySource {
         let rest = &self.text.as_slice()[self.at..];
         let count = piece_size(&self.sizes, call, buf.len()).min(rest.len());
         if count == 0 {
+            self.ended = true;
             return Got::End;
         }
         buf[..count].copy_from_slice(&rest[..count]);
@@ -134,23 +143,32 @@ impl Sink for MemorySink {
 pub struct MemoryClock {
     moments: ListOf<u64>,
     at: usize,
+    taken: u64,
     ghost within: { at < length moments },
 }
 
 impl MemoryClock {
     pub fn new(moments: ListOf<u64>) -> MemoryClock
         requires { 0 < length moments }
-        ensures { ⟦<MemoryClock as Clock>⟧.moments result ≡ Some moments }
+        ensures moments { ⟦<MemoryClock as Clock>⟧.moments result ≡ Some moments }
+        ensures taken { ⟦<MemoryClock as Clock>⟧.taken result ≡ 0 }
     {
-        MemoryClock { moments, at: 0 }
+        MemoryClock {
+            moments,
+            at: 0,
+            taken: 0,
+        }
     }
 }
 
 impl Clock for MemoryClock {
     ghost moments = { λ s. Some (drop s.at s.moments) };
 
+    ghost taken = { λ s. s.taken };
+
     fn now(&mut self) -> u64 {
-        let now = self.moments.as_slice()[self.at];
+        self.taken = self.taken.saturating_add(1);
+        let now = self.moments.as_slice()[self.at].min(LAST_MOMENT);
         if self.at + 1 < self.moments.len() {
             self.at += 1;
         }

@@ -1,6 +1,7 @@
 // What the program meets, as traits.
-ghost use Rattle.std.specs.Prelude.{◌≡◌, ◌<◌, ◌≤◌, ℕ, List, length, Option, IsErr, IsErrOf};
-ghost use Rattle.dict_io.specs.Outside.{HasCause, GotGives, GotWithin, PutGives, PutWithin, Side, WritesPrefix, ReadsFile, NextMoment};
+ghost use Rattle.std.specs.Prelude.{◌≡◌, ◌<◌, ◌≤◌, ℕ, List, length, Bool, Option, false, IsErr, IsErrOf};
+ghost use Rattle.dict_io.specs.Outside.{count_up, HasCause, GotGives, GotWithin, is_end, PutGives, PutWithin, Side};
+ghost use Rattle.dict_io.specs.Outside.{NextMoment, ReadsFile, WritesPrefix};
 
 use dict_value::Bytes;
 use thiserror::Error;
@@ -43,14 +44,19 @@ pub trait Source {
     /// How often a read has failed.
     ghost read_faults: { Self → ℕ };
 
+    /// A read found the end, and nothing is read any more.
+    ghost ended: { Self → Bool };
+
     /// What a read leaves as it is: the side that is written, where there is one.
     ghost kept_by_read: { Self → Side };
 
     fn read(&mut self, buf: &mut [u8]) -> Got
-        requires { 0 < length buf.old }
+        requires room { 0 < length buf.old }
+        requires open { ended self.old ≡ false }
         ensures bound { GotWithin result buf.new }
         ensures bytes { GotGives (left self.old) (left self.new) result buf.new }
         ensures cause { HasCause (read_faults self.old) (read_faults self.new) (result ≡ Got.Failed) }
+        ensures end { ended self.new ≡ is_end result }
         ensures kept { kept_by_read self.new ≡ kept_by_read self.old };
 }
 
@@ -96,8 +102,13 @@ pub trait Clock {
     /// The moments that come, where it tells them; the last one stays.
     ghost moments: { Self → Option (List ℕ) };
 
+    /// How many moments were taken.
+    ghost taken: { Self → ℕ };
+
     fn now(&mut self) -> u64
-        ensures { NextMoment (moments self.old) (moments self.new) result };
+        ensures moment { NextMoment (moments self.old) (moments self.new) result }
+        ensures bound { result ≤ LAST_MOMENT }
+        ensures taken { taken self.new ≡ count_up (taken self.old) };
 }
 
 /// Writes the whole piece, or a front of it and then a write fails.

@@ -1,8 +1,10 @@
 // The real outside, a few lines each. Nothing here tells what it reads or writes.
-ghost use Rattle.std.specs.Prelude.{◌≡◌, None};
-ghost use Rattle.dict_io.specs.Outside.{no_side};
+ghost use Rattle.std.specs.Prelude.{◌≡◌, ◌<◌, ◌≤◌, length, None, false, MatchResult};
+ghost use Rattle.dict_io.specs.Outside.{count_up, GotWithin, moment_of, no_side, PutWithin};
+ghost use Rattle.dict_io.specs.Real.{faults_after, ReadsFrom, WritesTo};
+ghost use Rattle.dict_io.specs.declared.outside.TheConstants.{LAST_MOMENT};
 
-use crate::outside::{Clock, Got, LAST_MOMENT, Put, Shelf, ShelfFault, Sink, Source};
+use crate::outside::{Clock, Failed, Got, LAST_MOMENT, Put, Shelf, ShelfFault, Sink, Source};
 use dict_value::Bytes;
 use std::alloc::Global;
 use std::io::{ErrorKind, Read, Write};
@@ -10,18 +12,52 @@ use std::rt::Files;
 use std::time::{SystemTime, UNIX_EPOCH};
 use std::{fs, rt};
 
+#[cfg(test)]
+mod tests;
+
+/// Reads from a reader of the runtime.
+pub fn read_from<R: Read>(reader: &mut R, buf: &mut [u8]) -> Got
+    requires { 0 < length buf.old }
+    ensures bound { GotWithin result buf.new }
+    ensures bytes { ReadsFrom (R.remaining reader.old) (R.remaining reader.new) result buf.new }
+{
+    match reader.read(buf) {
+        Ok(0) => Got::End,
+        Ok(count) => Got::Bytes(count),
+        Err(_) => Got::Failed,
+    }
+}
+
+/// Writes to a writer of the runtime; one that takes nothing has failed.
+pub fn write_to<W: Write>(writer: &mut W, piece: &[u8]) -> Put
+    requires { 0 < length piece.now }
+    ensures bound { PutWithin result piece.now }
+    ensures bytes { WritesTo (W.contents writer.old) (W.contents writer.new) result piece.now }
+{
+    match writer.write(piece) {
+        Ok(count) if count > 0 => Put::Bytes(count),
+        _ => Put::Failed,
+    }
+}
+
 /// A reader of the runtime, such as standard input.
 #[derive(Drop)]
 pub struct StdSource<R: Read> {
     reader: R,
     faults: u64,
+    ended: bool,
 }
 
 impl<R: Read> StdSource<R> {
     pub fn new(reader: R) -> StdSource<R>
-        ensures { ⟦<StdSource<R> as Source>⟧.read_faults result ≡ 0 }
+        ensures faults { ⟦<StdSource<R> as Source>⟧.read_faults result ≡ 0 }
+        ensures open { ⟦<StdSource<R> as Source>⟧.ended result ≡ false }
     {
-        StdSource { reader, faults: 0 }
+        StdSource {
+            reader,
+            faults: 0,
+            ended: false,
+        }
     }
 }
 
@@ -30,17 +66,18 @@ impl<R: Read> Source for StdSource<R> {
 
     ghost read_faults = { λ s. s.faults };
 
+    ghost ended = { λ s. s.ended };
+
     ghost kept_by_read = { λ s. no_side };
 
     fn read(&mut self, buf: &mut [u8]) -> Got {
-        match self.reader.read(buf) {
-            Ok(0) => Got::End,
-            Ok(count) => Got::Bytes(count),
-            Err(_) => {
-                self.faults = self.faults.saturating_add(1);
-                Got::Failed
-            }
+        let got = read_from(&mut self.reader, buf);
+        match got {
+            Got::Bytes(_) => {}
+            Got::End => self.ended = true,
+            Got::Failed => self.faults = self.faults.saturating_add(1),
         }
+        got
     }
 }
 
@@ -67,13 +104,11 @@ impl<W: Write> Sink for StdSink<W> {
     ghost kept_by_write = { λ s. no_side };
 
     fn write(&mut self, piece: &[u8]) -> Put {
-        match self.writer.write(piece) {
-            Ok(count) if count > 0 => Put::Bytes(count),
-            _ => {
-                self.faults = self.faults.saturating_add(1);
-                Put::Failed
-            }
+        let put = write_to(&mut self.writer, piece);
+        if put == Put::Failed {
+            self.faults = self.faults.saturating_add(1);
         }
+        put
     }
 }
 
@@ -135,35 +170,59 @@ fn read_at_most<R: Files>(
 pub struct SystemClock<'a, R: rt::Clock> {
     rt: &'a R,
     last: u64,
+    taken: u64,
     /// How often it couldn't be read.
     pub faults: u64,
+    ghost within: { last ≤ LAST_MOMENT },
 }
 
 impl<'a, R: rt::Clock> SystemClock<'a, R> {
     pub fn new(rt: &'a R) -> SystemClock<'a, R>
         ensures moments { ⟦<SystemClock<'a, R> as Clock>⟧.moments result ≡ None }
+        ensures taken { ⟦<SystemClock<'a, R> as Clock>⟧.taken result ≡ 0 }
         ensures faults { result.faults ≡ 0 }
     {
         SystemClock {
             rt,
             last: 0,
+            taken: 0,
             faults: 0,
         }
+    }
+
+    /// The moment of a reading; without one the last moment stands, and the fault is counted.
+    fn moment_by(&mut self, seconds: Result<u64, Failed>) -> u64
+        ensures moment { result ≡ self.new.last }
+        ensures last { MatchResult seconds (λ s. self.new.last ≡ moment_of s) (λ _. self.new.last ≡ self.old.last) }
+        ensures faults { self.new.faults ≡ faults_after seconds self.old.faults }
+        ensures taken { self.new.taken ≡ self.old.taken }
+    {
+        match seconds {
+            Ok(seconds) => self.last = seconds.min(LAST_MOMENT),
+            Err(Failed) => self.faults = self.faults.saturating_add(1),
+        }
+        self.last
+    }
+}
+
+/// The whole seconds since 1970 by the runtime's clock; before 1970 it can't be read.
+fn seconds_by<R: rt::Clock>(rt: &R) -> Result<u64, Failed> {
+    let Ok(now) = SystemTime::now(rt) else {
+        return Err(Failed);
+    };
+    match now.duration_since(UNIX_EPOCH) {
+        Ok(since) => Ok(since.as_secs()),
+        Err(_) => Err(Failed),
     }
 }
 
 impl<R: rt::Clock> Clock for SystemClock<'_, R> {
     ghost moments = { λ s. None };
 
+    ghost taken = { λ s. s.taken };
+
     fn now(&mut self) -> u64 {
-        let since = match SystemTime::now(self.rt) {
-            Ok(now) => now.duration_since(UNIX_EPOCH).ok(),
-            Err(_) => None,
-        };
-        match since {
-            Some(since) => self.last = since.as_secs().min(LAST_MOMENT),
-            None => self.faults = self.faults.saturating_add(1),
-        }
-        self.last
+        self.taken = self.taken.saturating_add(1);
+        self.moment_by(seconds_by(self.rt))
     }
 }

@@ -8,6 +8,9 @@ use crate::outside::{Shelf, ShelfFault};
 use dict_value::{Bytes, ListOf, NoMemory};
 use std::alloc::Global;
 
+#[cfg(test)]
+mod tests;
+
 /// A file in memory.
 #[derive(Debug, Drop)]
 pub struct NamedFile {

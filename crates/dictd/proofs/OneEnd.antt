@@ -31,6 +31,7 @@ one-cause output cause other p q = verdict.one-cause (Decode thin_shape Tab outp
 -- a child that ended so has one cause
 same-cause : (output : List ℕ) (ending : PieceEnd) (cause other : Cause) → IsCause output ending cause → IsCause output ending other → cause ≡ other
 same-cause output piece.NotStarted cause other p q = p ∙ sym q
+same-cause output piece.WriteFailed cause other p q = absurd p
 same-cause output (piece.Cut timed_out) cause other p q = p ∙ sym q
 same-cause output piece.TooLong cause other p q = p ∙ sym q
 same-cause output piece.WaitFailed cause other p q = p ∙ sym q

@@ -9,7 +9,7 @@ use Rattle.load_core.specs.declared.flat.TableFault.TheVariants.{Refused, NoMemo
 use Rattle.std.specs.List.{concat}
 use Rattle.dict_value.specs.declared.fault.Exit.{Exit}
 use Rattle.child_io.specs.declared.child.Script.{Script}
-use Rattle.child_io.specs.Outcomes.{PiecesTold}
+use Rattle.child_io.specs.Runs.{RunTold}
 use Rattle.dictd.specs.declared.ending.LoadEnd.{LoadEnd}
 use Rattle.dictd.specs.declared.ending.LoadEnd.TheVariants.{Published, Failed, NoMemory as EndNoMemory}
 use Rattle.dictd.specs.Loads.{IsCause, most_output}
@@ -30,7 +30,7 @@ IsRead ran words output ending (Err NoMemory) = ⊤
 pub record ReadsChild (old new : Option (List Script)) (ran : List (List ℕ) → List ℕ → Exit → Type 0) (words : List (List ℕ)) (result : Result Table TableFault) : Type 0 where
   pub pieces : List (List ℕ)
   pub ending : PieceEnd
-  pub child : PiecesTold old new most_output pieces ending
+  pub child : RunTold old new [] most_output ending pieces
   pub given : IsRead ran words (concat pieces) ending result
 
 -- the rows were appended as the version of this number, or the list is as it was

@@ -7,8 +7,8 @@ use Rattle.dict_value.specs.declared.fault.Exit.{Exit}
 use Rattle.dict_value.specs.declared.fault.Exit.TheVariants.{Code, Killed}
 use Rattle.child_io.specs.declared.child.Script.{Script}
 use Rattle.child_io.specs.declared.pieces.PieceEnd.{PieceEnd}
-use Rattle.child_io.specs.declared.pieces.PieceEnd.TheVariants.{NotStarted, Cut, TooLong, WaitFailed, Ended, NoMemory as NoMemoryFound}
-use Rattle.child_io.specs.Outcomes.{PiecesTold}
+use Rattle.child_io.specs.declared.pieces.PieceEnd.TheVariants.{NotStarted, WriteFailed, Cut, TooLong, WaitFailed, Ended, NoMemory as NoMemoryFound}
+use Rattle.child_io.specs.Runs.{RunTold}
 use Rattle.load_core.specs.declared.dictionary.DictCore.{DictCore}
 use Rattle.load_core.specs.declared.dictionary.DictEvent.{DictEvent}
 use Rattle.load_core.specs.declared.dictionary.DictEvent.TheVariants.{Start, Piece, Finish, Publish, Post}
@@ -35,6 +35,7 @@ IsExitCause output (Code number) cause = (number ≡ pos 0 → IsRefused output 
 -- why a child gives no rows that ended so and printed this: the first cause that is met
 abbrev pub IsCause : List ℕ → PieceEnd → Cause → Type 0
 IsCause output NotStarted cause = cause ≡ NoStart
+IsCause output WriteFailed cause = ⊥
 IsCause output (Cut timed_out) cause = cause ≡ (if timed_out then TimedOut else Read)
 IsCause output TooLong cause = cause ≡ Longer most_output
 IsCause output WaitFailed cause = cause ≡ Read
@@ -72,7 +73,7 @@ pub record State : Type 0 where
 pub record Runs (old : State) (end : LoadEnd) (new : State) : Type 0 where
   pub pieces : List (List ℕ)
   pub ending : PieceEnd
-  pub child : PiecesTold old.scripts new.scripts most_output pieces ending
+  pub child : RunTold old.scripts new.scripts [] most_output ending pieces
   pub list : EndsLoad (concat pieces) ending end old.versions new.versions
   pub core : new.core ≡ core_after old.core (load_events pieces end)
 

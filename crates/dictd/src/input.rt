@@ -1,5 +1,5 @@
 // The whole input, read before the first reply.
-ghost use Rattle.std.specs.Prelude.{◌≡◌, IsOk, MatchResult};
+ghost use Rattle.std.specs.Prelude.{◌≡◌, IsOk, MatchResult, false};
 ghost use Rattle.dict_io.specs.Outside.{HasCause};
 ghost use Rattle.dictd.specs.Inputs.{ReadsInput, ReadFails};
 
@@ -30,6 +30,7 @@ pub struct Input {
 
 /// Reads an input to its end, to a read that fails, or past the greatest number of bytes.
 pub fn read_input<I: Source>(alloc: Global, input: &mut I) -> Result<Input, NoMemory>
+    requires { I.ended input.old ≡ false }
     ensures read { ReadsInput (I.left input.old) (I.left input.new) result }
     ensures cause { HasCause (I.read_faults input.old) (I.read_faults input.new) (ReadFails result) }
 {

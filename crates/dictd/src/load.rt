@@ -1,5 +1,5 @@
 // The loads of a dictionary: each starts one child, and publishes its rows or says why there are none.
-ghost use Rattle.std.specs.Prelude.{◌≡◌, ◌<◌, ◌≤◌, ◌∷◌, [], ℕ, List, false, length, IfOk};
+ghost use Rattle.std.specs.Prelude.{◌≡◌, ◌≢◌, ◌<◌, ◌≤◌, ◌∷◌, [], ℕ, List, false, length, IfOk};
 ghost use Rattle.std.specs.Result.{ForOk};
 ghost use Rattle.load_core.specs.DictSteps.{empty_core};
 ghost use Rattle.dict_schema.specs.declared.definition.ShapeColumn.{ShapeColumn};
@@ -103,10 +103,12 @@ fn judge(
 ) -> Result<Rows, TableFault>
     requires shape { shape.now ≡ thin_shape }
     requires few { gathered.now.lost ≡ false → length gathered.now.bytes ≤ 4294967295 }
+    requires written { end ≢ PieceEnd.WriteFailed }
     ensures { IsJudged gathered.now end result }
 {
     match end {
         PieceEnd::NotStarted => Err(TableFault::Refused(Cause::Start)),
+        PieceEnd::WriteFailed => unreachable!(),
         PieceEnd::Cut { timed_out: true } => Err(TableFault::Refused(Cause::TimedOut)),
         PieceEnd::Cut { timed_out: false } => Err(TableFault::Refused(Cause::Read)),
         PieceEnd::TooLong => Err(TableFault::Refused(Cause::Longer(MOST_OUTPUT))),
@@ -162,7 +164,7 @@ fn read_child<S: Spawner>(
         core: *core,
         gathered: Gathered::new(alloc),
     };
-    let end = run_pieces(spawner, words, MOST_OUTPUT, READ_MS, &mut taken);
+    let end = run_pieces(spawner, words, &[], MOST_OUTPUT, READ_MS, &mut taken);
     *core = taken.core;
     judge(alloc, shape, &taken.gathered, end)
 }

@@ -1,6 +1,6 @@
 // The run of `once`.
-ghost use Rattle.std.specs.Prelude.{◌≡◌, ◌∷◌, [], ℕ, List, map, string_bytes, IsErr, IsErrOf, codes};
-ghost use Rattle.dict_io.specs.Outside.{HasCause, Rose};
+ghost use Rattle.std.specs.Prelude.{◌≡◌, ◌≢◌, false, ◌∷◌, [], ℕ, List, map, string_bytes, IsErr, IsErrOf, codes};
+ghost use Rattle.dict_io.specs.Outside.{HasCause, Rose, RoseWhere};
 ghost use Rattle.child_io.specs.Words.{source_words};
 ghost use Rattle.dictd.specs.ThinRows.{thin_shape};
 ghost use Rattle.dictd.specs.Asked.{IsRequestsOf};
@@ -63,7 +63,11 @@ fn serve<S: Spawner, W: ChildWords, I: Source, O: Sink>(
 ) -> Status
     requires words { words ≡ W.words }
     requires shape { shape ≡ thin_shape }
-    ensures reads { HasCause (I.read_faults input.old) (I.read_faults input.new) (result ≡ Status.ReadFault) }
+    requires input { I.ended input.old ≡ false }
+    ensures reads { RoseWhere (I.read_faults input.old) (I.read_faults input.new) (result ≡ Status.ReadFault) }
+    ensures reads_well {
+        result ≢ Status.ReadFault → result ≢ Status.WriteFault → I.read_faults input.new ≡ I.read_faults input.old
+    }
     ensures writes { HasCause (O.write_faults out.old) (O.write_faults out.new) (result ≡ Status.WriteFault) }
     ensures run { (d : ThinDefinition) → IsRequestsOf d requests.now → ServesRun d S.ran W.words (record { scripts = S.scripts spawner.old; left = I.left input.old; written = O.written out.old }) (record { scripts = S.scripts spawner.new; left = I.left input.new; written = O.written out.new }) result }
 {
@@ -108,8 +112,12 @@ fn run<F: Shelf, S: Spawner, C: Clock, I: Source, O: Sink>(
     input: &mut I,
     out: &mut O,
 ) -> Status
+    requires { I.ended input.old ≡ false }
     ensures shelf { HasCause (F.shelf_faults shelf.old) (F.shelf_faults shelf.new) (result ≡ Status.DefsUnread) }
-    ensures reads { HasCause (I.read_faults input.old) (I.read_faults input.new) (result ≡ Status.ReadFault) }
+    ensures reads { RoseWhere (I.read_faults input.old) (I.read_faults input.new) (result ≡ Status.ReadFault) }
+    ensures reads_well {
+        result ≢ Status.ReadFault → result ≢ Status.WriteFault → I.read_faults input.new ≡ I.read_faults input.old
+    }
     ensures writes { HasCause (O.write_faults out.old) (O.write_faults out.new) (result ≡ Status.WriteFault) }
     ensures run { OnceRun (map string_bytes words.now) (F.file shelf.old) S.ran (record { scripts = S.scripts spawner.old; left = I.left input.old; written = O.written out.old }) (record { scripts = S.scripts spawner.new; left = I.left input.new; written = O.written out.new }) result }
 {
@@ -159,8 +167,12 @@ pub fn once<F: Shelf, S: Spawner, C: Clock, I: Source, O: Sink, E: Sink>(
     out: &mut O,
     err: &mut E,
 ) -> Status
+    requires { I.ended input.old ≡ false }
     ensures shelf { HasCause (F.shelf_faults shelf.old) (F.shelf_faults shelf.new) (result ≡ Status.DefsUnread) }
-    ensures reads { HasCause (I.read_faults input.old) (I.read_faults input.new) (result ≡ Status.ReadFault) }
+    ensures reads { RoseWhere (I.read_faults input.old) (I.read_faults input.new) (result ≡ Status.ReadFault) }
+    ensures reads_well {
+        result ≢ Status.ReadFault → result ≢ Status.WriteFault → I.read_faults input.new ≡ I.read_faults input.old
+    }
     ensures writes { HasCause (O.write_faults out.old) (O.write_faults out.new) (result ≡ Status.WriteFault) }
     ensures run { OnceRun (map string_bytes words.now) (F.file shelf.old) S.ran (record { scripts = S.scripts spawner.old; left = I.left input.old; written = O.written out.old }) (record { scripts = S.scripts spawner.new; left = I.left input.new; written = O.written out.new }) result }
     ensures told { Tells (E.written err.old) (E.written err.new) (status_text result) (Rose (E.write_faults err.old) (E.write_faults err.new)) }

@@ -66,6 +66,7 @@ fn script(alloc: Global, output: &[u8], ends: Ends) -> Result<Script, Fail> {
         timed_out_reads: ListOf::new(alloc),
         failing_writes: ListOf::new(alloc),
         wait_fails: matches!(ends, Ends::WaitFails),
+        after_close: true,
         exit: match ends {
             Ends::With(code) => Exit::Code(code),
             _ => Exit::Killed,

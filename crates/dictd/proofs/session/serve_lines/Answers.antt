@@ -1,13 +1,13 @@
-use Rattle.std.proofs.Common.{arith}
+use Rattle.std.proofs.Common.{refl, ◌∙◌}
 use Rattle.dictd.proofs.Lines.{serving-start, serving-next, serving-failed}
 use Rattle.dictd.proofs.session.serve_lines.Goals as goal
 
 pub loop-line-init : goal.loop-line-init
-loop-line-init g c = record { later = omega arith; serving = λ d is. serving-start d _ _ _ }
+loop-line-init g c = record { still = refl; serving = λ d is. serving-start d _ _ _ }
 
 pub loop-line-preserved : goal.loop-line-preserved
 loop-line-preserved g c = record {
-  later = omega (arith, c.serve_line.ensures.cause.later, c.loop-line.invariant.later);
+  still = c.in-Ok.ensures.cause.still (λ f. cc) ∙ c.loop-line.invariant.still;
   serving = λ d is.
       let w = c.in-Ok.ensures.reply d is in
       serving-next d _ _ _ c.args.text.now c.loop-line.rest.now c.in-Some.line.now c.in-Some.behind.now w.0 _ _ _ (c.loop-line.invariant.serving d is) c.in-Some.ensures.0 c.in-Some.ensures.1 w.1 w.2;

@@ -1,4 +1,4 @@
-use Rattle.std.proofs.Common.{◌≤◌, length}
+use Rattle.std.proofs.Common.{◌≡◌, length}
 use Rattle.dictd.specs.declared.thin.ThinDefinition.{ThinDefinition}
 use Rattle.dictd.specs.Asked.{IsRequestsOf}
 use Rattle.dictd.proofs.Lines.{Serving}
@@ -6,7 +6,7 @@ use Rattle.dictd.proofs.session.serve_lines.Given as goal
 
 abbrev pub invariant-loop-line : goal.invariant-loop-line
 invariant-loop-line g l = record {
-  later : g.O.Sink.write_faults l.initial.out ≤ g.O.Sink.write_faults l.out;
+  still : g.O.Sink.write_faults l.out ≡ g.O.Sink.write_faults l.initial.out;
   serving : (d : ThinDefinition) → IsRequestsOf d l.requests
       → Serving d (record { versions = l.initial.dictionary.versions; core = l.initial.dictionary.core; scripts = g.S.Spawner.scripts l.initial.spawner }) l.fn.text l.rest (g.O.Sink.written l.initial.out) (g.O.Sink.written l.out) (record { versions = l.dictionary.versions; core = l.dictionary.core; scripts = g.S.Spawner.scripts l.spawner });
 }
