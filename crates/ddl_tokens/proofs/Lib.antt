@@ -1,0 +1,5 @@
+mod Skipped
+mod InQuotes
+mod Numerals
+mod Found
+mod Going
