@@ -4,4 +4,6 @@ pub mod Quoted
 pub mod Tokens
 pub mod Lines
 pub mod Reading
+pub mod Laws
+pub mod Lists
 pub mod steps

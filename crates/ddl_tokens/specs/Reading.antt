@@ -49,18 +49,13 @@ is_the_sign sign t = if is_signed t.kind then same_letters AsWritten t.bytes (si
 
 -- ---- the token in hand
 
-abbrev pub passes : (Token → Bool) → List Token → Bool
+-- whether there is a token in hand that passes a test
+unfoldable pub passes : (Token → Bool) → List Token → Bool
 passes test [] = false
 passes test (t ∷ ts) = test t
 
-unfoldable pub kind_passes : (TokenKind → Bool) → List Token → Bool
-kind_passes test ts = passes (λ t. test t.kind) ts
-
-unfoldable pub keyword_ahead : List ℕ → List Token → Bool
-keyword_ahead word ts = passes (is_keyword word) ts
-
-unfoldable pub sign_ahead : ℕ → List Token → Bool
-sign_ahead sign ts = passes (is_the_sign sign) ts
+abbrev pub of_kind : (TokenKind → Bool) → Token → Bool
+of_kind test t = test t.kind
 
 unfoldable pub bytes_ahead : List Token → List ℕ
 bytes_ahead [] = []
@@ -89,13 +84,13 @@ abbrev pub unexpected : {A : Type 0} → List Token → Result A SyntaxFault
 unexpected ts = Err (Unexpected (place_ahead ts))
 
 unfoldable pub keyword_at : List ℕ → List Token → Read (Unit {0})
-keyword_at word ts = if keyword_ahead word ts then Ok (tt, drop 1 ts) else unexpected ts
+keyword_at word ts = if passes (is_keyword word) ts then Ok (tt, drop 1 ts) else unexpected ts
 
 unfoldable pub sign_at : ℕ → List Token → Read (Unit {0})
-sign_at sign ts = if sign_ahead sign ts then Ok (tt, drop 1 ts) else unexpected ts
+sign_at sign ts = if passes (is_the_sign sign) ts then Ok (tt, drop 1 ts) else unexpected ts
 
 unfoldable pub bytes_at : (TokenKind → Bool) → List Token → Read (List ℕ)
-bytes_at test ts = if kind_passes test ts then Ok (bytes_ahead ts, drop 1 ts) else unexpected ts
+bytes_at test ts = if passes (of_kind test) ts then Ok (bytes_ahead ts, drop 1 ts) else unexpected ts
 
 -- what a call that answers this and leaves these tokens has read
 abbrev pub HasRead : {X Y : Type 0} → (X → Y) → Result X ReadFault → List Token → Read Y → Type 0

@@ -3,7 +3,7 @@ ghost use Rattle.std.specs.Prelude.{◌≡◌, ◌<◌, length, drop, List, IfOk
 ghost use Rattle.ddl_tokens.specs.declared.fault.ReadFault.TheVariants as fault;
 ghost use Rattle.ddl_tokens.specs.declared.fault.SyntaxFault.TheVariants.{Unexpected};
 ghost use Rattle.ddl_tokens.specs.Letters.{same_letters};
-ghost use Rattle.ddl_tokens.specs.Reading.{Gives, bytes_ahead, bytes_at, goes_on, is_name, is_number, is_string, keyword_ahead, keyword_at, kind_ahead, kind_passes, place_ahead, sign_ahead, sign_at};
+ghost use Rattle.ddl_tokens.specs.Reading.{Gives, bytes_ahead, bytes_at, goes_on, is_name, is_number, is_string, is_keyword, is_the_sign, keyword_at, kind_ahead, of_kind, passes, place_ahead, sign_at};
 ghost use Rattle.ddl_tokens.specs.Tokens.{Token, AreTokens};
 
 use crate::fault::{ReadFault, SyntaxFault};
@@ -65,48 +65,48 @@ impl<'a> Reader<'a> {
     }
 
     /// Whether the token in hand is this word without quotes, in any letter case.
-    #[tactic(auto, unfolding(crate::specs::Reading::keyword_ahead, crate::specs::Reading::is_keyword))]
+    #[tactic(auto, unfolding(crate::specs::Reading::passes, crate::specs::Reading::is_keyword))]
     pub fn sees_keyword(&self, word: &[u8]) -> bool
-        ensures { result ≡ keyword_ahead word.now self.now }
+        ensures { result ≡ passes (is_keyword word.now) self.now }
     {
         matches!(self.token.kind, TokenKind::Word)
             && is_same(LetterCase::Any, self.token.text, word)
     }
 
-    #[tactic(auto, unfolding(crate::specs::Reading::sign_ahead, crate::specs::Reading::is_the_sign))]
+    #[tactic(auto, unfolding(crate::specs::Reading::passes, crate::specs::Reading::is_the_sign))]
     pub fn sees_sign(&self, sign: u8) -> bool
-        ensures { result ≡ sign_ahead sign self.now }
+        ensures { result ≡ passes (is_the_sign sign) self.now }
     {
         matches!(self.token.kind, TokenKind::Sign)
             && is_same(LetterCase::AsWritten, self.token.text, &[sign])
     }
 
     /// Whether the token in hand is a word, with or without quotes.
-    #[tactic(auto, unfolding(crate::specs::Reading::kind_passes))]
+    #[tactic(auto, unfolding(crate::specs::Reading::passes))]
     pub fn sees_name(&self) -> bool
-        ensures { result ≡ kind_passes is_name self.now }
+        ensures { result ≡ passes (of_kind is_name) self.now }
     {
         matches!(self.token.kind, TokenKind::Word | TokenKind::QuotedWord)
     }
 
-    #[tactic(auto, unfolding(crate::specs::Reading::kind_passes))]
+    #[tactic(auto, unfolding(crate::specs::Reading::passes))]
     pub fn sees_string(&self) -> bool
-        ensures { result ≡ kind_passes is_string self.now }
+        ensures { result ≡ passes (of_kind is_string) self.now }
     {
         matches!(self.token.kind, TokenKind::String)
     }
 
-    #[tactic(auto, unfolding(crate::specs::Reading::kind_passes))]
+    #[tactic(auto, unfolding(crate::specs::Reading::passes))]
     pub fn sees_number(&self) -> bool
-        ensures { result ≡ kind_passes is_number self.now }
+        ensures { result ≡ passes (of_kind is_number) self.now }
     {
         matches!(self.token.kind, TokenKind::Number)
     }
 
     /// Whether another token follows that in hand.
-    #[tactic(auto, unfolding(crate::specs::Reading::kind_passes))]
+    #[tactic(auto, unfolding(crate::specs::Reading::passes))]
     pub fn goes_on(&self) -> bool
-        ensures { result ≡ kind_passes goes_on self.now }
+        ensures { result ≡ passes (of_kind goes_on) self.now }
     {
         !matches!(self.token.kind, TokenKind::Broken | TokenKind::End)
     }
@@ -140,7 +140,7 @@ impl<'a> Reader<'a> {
 
     /// Leaves the token in hand behind.
     pub fn skip(&mut self)
-        requires { IsTrue (kind_passes goes_on self.old) }
+        requires { IsTrue (passes (of_kind goes_on) self.old) }
         ensures rest { self.new ≡ drop 1 self.old }
         ensures shorter { length self.new < length self.old }
     {
@@ -201,7 +201,7 @@ impl<'a> Reader<'a> {
     }
 
     /// The text of a number, which stays where it is.
-    #[tactic(auto, unfolding(crate::specs::Reading::bytes_at, crate::specs::Reading::bytes_ahead, crate::specs::Reading::kind_passes))]
+    #[tactic(auto, unfolding(crate::specs::Reading::bytes_at, crate::specs::Reading::bytes_ahead, crate::specs::Reading::passes))]
     pub fn number(&mut self) -> Result<&'a [u8], ReadFault>
         ensures value { Gives (λ text. text.now) result self.new (bytes_at is_number self.old) }
         ensures shorter { OnOk result (length self.new < length self.old) }
