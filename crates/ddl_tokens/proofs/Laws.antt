@@ -4,8 +4,17 @@ use Rattle.ddl_tokens.specs.declared.token.TokenKind.{TokenKind}
 use Rattle.ddl_tokens.specs.declared.fault.SyntaxFault.{SyntaxFault}
 use Rattle.ddl_tokens.specs.declared.fault.SyntaxFault.TheVariants.{Unexpected}
 use Rattle.ddl_tokens.specs.Tokens.{Token}
-use Rattle.ddl_tokens.specs.Reading.{◌>>=◌, Read, passes, is_keyword, is_the_sign, keyword_at, sign_at, bytes_at, bytes_ahead}
-use Rattle.ddl_tokens.specs.Laws.{first, place_of, Anyhow, Begins, IsLeast, Faults, Lawful, IsOne, judged, IsKeyword, IsSign, IsBytes, IsNothing, Then, Either, Made, Optional, OptionalStops}
+use Rattle.ddl_tokens.specs.Reading.{Gives, is_word, is_signed, ◌>>=◌, Read, passes, is_keyword, is_the_sign, keyword_at, sign_at, bytes_at, bytes_ahead}
+use Rattle.ddl_tokens.specs.Laws.{Starts, IfSyntax, first, place_of, Anyhow, Begins, IsLeast, Faults, Lawful, IsOne, judged, IsKeyword, IsSign, IsBytes, IsNothing, Then, Either, Made, Optional, OptionalStops}
+use Rattle.std.specs.Prelude.{◌==◌, IfOk}
+use Rattle.dict_value.specs.Memory.{UnlessNoMemory}
+use Rattle.std.proofs.lemmas.Bool.{eqb-true, eq-eqb, cond-true, cond-false, cases_Bool}
+use Rattle.ddl_tokens.specs.declared.token.TokenKind.TheVariants.{Word, QuotedWord, Number, String, Sign, Broken, End}
+use Rattle.ddl_tokens.specs.declared.letters.LetterCase.{LetterCase}
+use Rattle.ddl_tokens.specs.declared.letters.LetterCase.TheVariants.{Any, AsWritten}
+use Rattle.ddl_tokens.specs.declared.fault.ReadFault.{ReadFault}
+use Rattle.ddl_tokens.specs.declared.fault.ReadFault.TheVariants as fault
+use Rattle.ddl_tokens.specs.Letters.{folded, same_letters}
 
 -- ---- readings in a row
 
@@ -164,24 +173,33 @@ pub judged_ok : {A : Type 0} (b : Bool) (a x : A) (e : SyntaxFault) → cond b (
 judged_ok true a x e h = (refl, cc)
 judged_ok false a x e h = absurd cc
 
--- each wants an example of a token that passes
-pub a_sign : {Before : Option Token → Type 0} (sign : ℕ) (t : Token) → is_the_sign sign t ≡ true → Lawful Before (sign_at sign) (IsSign sign) Anyhow
-unfolding sign_at passes
-a_sign sign t h = one_token (sign_at sign) (judged (is_the_sign sign) (λ _. tt {0})) refl
-    (λ u ts. judged_bind (is_the_sign sign u) (tt {0}) (Unexpected u.place) ts)
-    (λ u e k. judged_place (is_the_sign sign u) (tt {0}) u.place e k)
-    (tt {0}, t, ap (λ (b : Bool). cond b (Ok (tt {0})) (Err (Unexpected t.place))) h)
+same_itself : (case : LetterCase) (word : List ℕ) → same_letters case word word ≡ true
+unfolding same_letters
+same_itself case [] = refl
+same_itself case (b ∷ word) = cond-true (folded case b == folded case b) _ _ (eq-eqb (folded case b) (folded case b) refl) ∙ same_itself case word
 
-pub a_keyword : {Before : Option Token → Type 0} (word : List ℕ) (t : Token) → is_keyword word t ≡ true → Lawful Before (keyword_at word) (IsKeyword word) Anyhow
-unfolding keyword_at passes
-a_keyword word t h = one_token (keyword_at word) (judged (is_keyword word) (λ _. tt {0})) refl
+pub sign : {Before : Option Token → Type 0} (c : ℕ) → Lawful Before (sign_at c) (IsSign c) Anyhow
+unfolding sign_at passes is_the_sign
+sign c =
+    let t : Token = record { place = 0; kind = Sign; bytes = c ∷ [] } in
+    one_token (sign_at c) (judged (is_the_sign c) (λ _. tt {0})) refl
+    (λ u ts. judged_bind (is_the_sign c u) (tt {0}) (Unexpected u.place) ts)
+    (λ u e k. judged_place (is_the_sign c u) (tt {0}) u.place e k)
+    (tt {0}, t, ap (λ (b : Bool). cond b (Ok (tt {0})) (Err (Unexpected 0))) (same_itself AsWritten (c ∷ [])))
+
+pub keyword : {Before : Option Token → Type 0} (word : List ℕ) → Lawful Before (keyword_at word) (IsKeyword word) Anyhow
+unfolding keyword_at passes is_keyword
+keyword word =
+    let t : Token = record { place = 0; kind = Word; bytes = word } in
+    one_token (keyword_at word) (judged (is_keyword word) (λ _. tt {0})) refl
     (λ u ts. judged_bind (is_keyword word u) (tt {0}) (Unexpected u.place) ts)
     (λ u e k. judged_place (is_keyword word u) (tt {0}) u.place e k)
-    (tt {0}, t, ap (λ (b : Bool). cond b (Ok (tt {0})) (Err (Unexpected t.place))) h)
+    (tt {0}, t, ap (λ (b : Bool). cond b (Ok (tt {0})) (Err (Unexpected 0))) (same_itself Any word))
 
-pub some_bytes : {Before : Option Token → Type 0} (test : TokenKind → Bool) (kind : TokenKind) → test kind ≡ true → Lawful Before (bytes_at test) (IsBytes test) Anyhow
+-- a token of a kind that is given as an example
+pub bytes : {Before : Option Token → Type 0} (test : TokenKind → Bool) (kind : TokenKind) → test kind ≡ true → Lawful Before (bytes_at test) (IsBytes test) Anyhow
 unfolding bytes_at passes bytes_ahead
-some_bytes test kind h =
+bytes test kind h =
     let t : Token = record { place = 0; kind = kind; bytes = [] } in
     one_token (bytes_at test) (judged (λ u. test u.kind) (λ u. u.bytes)) refl
     (λ u ts. judged_bind (test u.kind) u.bytes (Unexpected u.place) ts)
@@ -417,3 +435,93 @@ optional {A = A} test {read = read} {Own = Own} {Stops = Stops} headed F =
       from : (a : Option A) (ts : List Token) → Optional Own a ts → Either (Made (λ a. Some a) Own) (IsNothing None) a ts
       from None ts h = inr (refl, h)
       from (Some a) ts h = inl (record { from = a; is = refl; fits = h })
+
+-- what begins with a token that passes a test
+pub headed : {A B : Type 0} (test : Token → Bool) (value : Token → A) (Next : A → B → List Token → Type 0) → Headed test (Then (IsOne (judged test value)) Next)
+headed test value Next b own h =
+    let one = h.before in
+    (one.token, h.back, h.parts ∙ ap (λ (ts : List Token). ts ++ h.back) one.parts, (judged_ok (test one.token) (value one.token) h.value (Unexpected one.token.place) one.fine).0)
+
+-- the first token of what begins with one that passes a test
+pub first_passes : {A B : Type 0} (test : Token → Bool) (value : Token → A) (Next : A → B → List Token → Type 0) (b : B) (own rest : List Token) → Then (IsOne (judged test value)) Next b own
+    → (t : Token) × (first (own ++ rest) ≡ Some t) × (test t ≡ true)
+first_passes test value Next b own rest h = let p = headed test value Next b own h in (p.0, ap (λ (ts : List Token). first (ts ++ rest)) p.2, p.3)
+
+-- ---- words and signs are apart
+
+same_letters_first : (case : LetterCase) (text word other : List ℕ) → same_letters case text word ≡ true → same_letters case text other ≡ true → same_letters case word other ≡ true
+unfolding same_letters
+same_letters_first case [] [] other e f = f
+same_letters_first case [] (k ∷ word) other e f = absurd cc
+same_letters_first case (b ∷ text) [] other e f = absurd cc
+same_letters_first case (b ∷ text) (k ∷ word) [] e f = absurd cc
+same_letters_first case (b ∷ text) (k ∷ word) (m ∷ other) e f =
+    elim (test_cases (folded case b == folded case k) (same_letters case text word) false true e) [
+      | inr x ↦ absurd (let y = x.1 in cc)
+      | inl x ↦ elim (test_cases (folded case b == folded case m) (same_letters case text other) false true f) [
+        | inr y ↦ absurd (let z = y.1 in cc)
+        | inl y ↦
+            let same : folded case k ≡ folded case m = sym (eqb-true (folded case b) (folded case k) x.0) ∙ eqb-true (folded case b) (folded case m) y.0 in
+            cond-true (folded case k == folded case m) _ _ (eq-eqb (folded case k) (folded case m) same) ∙ same_letters_first case text word other x.1 y.1
+      ]
+    ]
+
+-- a token that is one keyword is no other
+pub keywords_apart : (word other : List ℕ) (t : Token) → same_letters Any word other ≡ false → is_keyword word t ≡ true → is_keyword other t ≡ false
+unfolding is_keyword
+keywords_apart word other t apart e = elim (test_cases (is_word t.kind) (same_letters Any t.bytes word) false true e) [
+  | inr x ↦ absurd (let y = x.1 in cc)
+  | inl x ↦ elim (cases_Bool (same_letters Any t.bytes other)) [
+    | inr y ↦ cond-true (is_word t.kind) _ _ x.0 ∙ y
+    | inl y ↦ absurd (let z = sym (same_letters_first Any t.bytes word other x.1 y) ∙ apart in cc)
+  ]
+]
+
+-- a token that is one sign is no other
+pub signs_apart : (sign other : ℕ) (t : Token) → same_letters AsWritten (sign ∷ []) (other ∷ []) ≡ false → is_the_sign sign t ≡ true → is_the_sign other t ≡ false
+unfolding is_the_sign
+signs_apart sign other t apart e = elim (test_cases (is_signed t.kind) (same_letters AsWritten t.bytes (sign ∷ [])) false true e) [
+  | inr x ↦ absurd (let y = x.1 in cc)
+  | inl x ↦ elim (cases_Bool (same_letters AsWritten t.bytes (other ∷ []))) [
+    | inr y ↦ cond-true (is_signed t.kind) _ _ x.0 ∙ y
+    | inl y ↦ absurd (let z = sym (same_letters_first AsWritten t.bytes (sign ∷ []) (other ∷ []) x.1 y) ∙ apart in cc)
+  ]
+]
+
+-- a sign is no word
+pub sign_no_keyword : (sign : ℕ) (word : List ℕ) (t : Token) → is_the_sign sign t ≡ true → is_keyword word t ≡ false
+unfolding is_the_sign is_keyword
+sign_no_keyword sign word t e = elim (test_cases (is_signed t.kind) (same_letters AsWritten t.bytes (sign ∷ [])) false true e) [
+  | inr x ↦ absurd (let y = x.1 in cc)
+  | inl x ↦ cond-false (is_word t.kind) _ _ (no_word t.kind x.0)
+] where
+  no_word : (k : TokenKind) → is_signed k ≡ true → is_word k ≡ false
+  no_word Word h = absurd cc
+  no_word QuotedWord h = refl
+  no_word Number h = refl
+  no_word String h = refl
+  no_word Sign h = refl
+  no_word Broken h = refl
+  no_word End h = refl
+
+-- ---- what a call that gives a lawful reading answers
+
+pub is_found : {A : Type 0} {read : List Token → Read A} {Own : A → List Token → Type 0} {Stops : A → Option Token → Type 0} → Lawful (λ _. Unit {0}) read Own Stops
+    → (ts rest : List Token) (result : Result A ReadFault) → Gives (λ a. a) result rest (read ts) → IfOk result (λ a. Starts Own Stops ts a)
+is_found F ts rest (Ok a) h = (rest, F.found ts a rest tt (h (λ e. absurd cc)))
+is_found F ts rest (Err e) h = tt
+
+pub is_only : {A : Type 0} {read : List Token → Read A} {Own : A → List Token → Type 0} {Stops : A → Option Token → Type 0} → Lawful (λ _. Unit {0}) read Own Stops
+    → (ts rest : List Token) (result : Result A ReadFault) → Gives (λ a. a) result rest (read ts) → (own tail : List Token) (a : A) → ts ≡ own ++ tail → Own a own → Stops a (first tail)
+    → UnlessNoMemory (Err fault.NoMemory) result (result ≡ Ok a)
+is_only {read = read} F ts rest (Ok b) h own tail a e f s = λ n.
+    let same = ok_is (b, rest) (a, tail) (sym (h n) ∙ ap read e ∙ F.only a own tail f s) in
+    ap (λ (p : _ × List Token). Ok p.0) same
+is_only {read = read} F ts rest (Err (fault.Syntax g)) h own tail a e f s = λ n. absurd (let same = sym (h n) ∙ ap read e ∙ F.only a own tail f s in cc)
+is_only F ts rest (Err fault.NoMemory) h own tail a e f s = λ n. absurd (n refl)
+
+pub is_told_least : {A : Type 0} {read : List Token → Read A} {Own : A → List Token → Type 0} {Stops : A → Option Token → Type 0} → Lawful (λ _. Unit {0}) read Own Stops
+    → (ts rest : List Token) (result : Result A ReadFault) → Gives (λ a. a) result rest (read ts) → IfSyntax result (λ e. IsLeast Own Stops ts e)
+is_told_least F ts rest (Ok a) h = tt
+is_told_least F ts rest (Err (fault.Syntax e)) h = is_least F ts e tt (h (λ x. absurd cc))
+is_told_least F ts rest (Err fault.NoMemory) h = tt

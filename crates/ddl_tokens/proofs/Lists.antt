@@ -20,6 +20,12 @@ last_is Stops [] a o = refl
 last_is Stops (b ∷ []) a o = refl
 last_is Stops (b ∷ c ∷ before) a o = last_is Stops (c ∷ before) a o
 
+-- where each item of a list stops, the list does
+pub all_stop : {A : Type 0} (Stops : A → Option Token → Type 0) (o : Option Token) (items : List A) → ((a : A) → Stops a o) → LastStops Stops items o
+all_stop Stops o [] h = tt
+all_stop Stops o (b ∷ []) h = h b
+all_stop Stops o (b ∷ c ∷ items) h = all_stop Stops o (c ∷ items) h
+
 module _ {A : Type 0} (sign : ℕ) {item : List Token → Read A} {Own : A → List Token → Type 0} {Stops : A → Option Token → Type 0}
     (I : Lawful (λ _. Unit {0}) item Own Stops)
     (at_sign : (a : A) (t : Token) → is_the_sign sign t ≡ true → Stops a (Some t)) where
@@ -119,13 +125,9 @@ module _ {A : Type 0} (sign : ℕ) {item : List Token → Read A} {Own : A → L
     err = λ a ts e _ h. failed a ts e h;
     good = λ a b own _ h. tt;
     some = λ a b own h. let e = ap length h.parts in omega (arith, e);
-    follows = λ a b own rest h. subst (λ us. Behind a (first (us ++ rest))) (sym h.parts) (last_at_sign a h.token h.is_sign);
+    follows = λ a b own rest h. subst (λ us. Behind a (first (us ++ rest))) (sym h.parts) (all_stop Stops (Some h.token) a (λ b. at_sign b h.token h.is_sign));
     finish = λ a _. (a, [], none refl refl, tt);
-  } where
-    last_at_sign : (a : List A) (t : Token) → is_the_sign sign t ≡ true → LastStops Stops a (Some t)
-    last_at_sign [] t e = tt
-    last_at_sign (b ∷ []) t e = at_sign b t e
-    last_at_sign (b ∷ c ∷ a) t e = last_at_sign (c ∷ a) t e
+  }
 
   tail_from : (a b : List A) (ts : List Token) → Many Adds a b ts → (items : List A) × (b ≡ a ++ items) × Tail sign Own items ts
   tail_from a b ts (none e h) = ([], sym (append-nil a ∙ e), subst (λ us. Tail sign Own [] us) (sym h) ended)

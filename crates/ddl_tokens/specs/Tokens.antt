@@ -21,8 +21,8 @@ Has part text = (before : List ℕ) × (after : List ℕ) × (text ≡ before ++
 -- a comment up to its line feed (10), and one in signs, which its first `*/` ends
 pub data IsComment : List ℕ → Type 0 where
   line : {own : List ℕ} (text : List ℕ) → own ≡ codes "--" ++ (text ++ 10 ∷ []) → Lacks 10 text → IsComment own
-  block : {own : List ℕ} (text : List ℕ) → own ≡ codes "/*" ++ (text ++ codes "*/") → ¬ Has (codes "*/") (text ++ codes "*")
-      → IsComment own
+  block : {own : List ℕ} (text : List ℕ) → own ≡ codes "/*" ++ (text ++ codes "*/")
+      → ¬ Has (codes "*/") (text ++ codes "*") → IsComment own
 
 -- blanks and comments, which may stand before a token
 pub data IsGap : List ℕ → Type 0 where
@@ -55,8 +55,8 @@ pub data IsToken : TokenKind → List ℕ → List ℕ → List ℕ → Type 0 w
       → begins_with is_word_byte rest ≡ false → IsToken Word (b ∷ own) (b ∷ own) rest
   whole : {own rest : List ℕ} (sign digits : List ℕ) → own ≡ sign ++ digits → IsNumberSign sign → IsDigits digits
       → begins_with is_digit rest ≡ false → begins_with_fraction rest ≡ false → IsToken Number own own rest
-  fraction : {own rest : List ℕ} (sign digits places : List ℕ) → own ≡ sign ++ (digits ++ 46 ∷ places) → IsNumberSign sign
-      → IsDigits digits → IsDigits places → begins_with is_digit rest ≡ false → IsToken Number own own rest
+  fraction : {own rest : List ℕ} (sign digits places : List ℕ) → own ≡ sign ++ (digits ++ 46 ∷ places)
+      → IsNumberSign sign → IsDigits digits → IsDigits places → begins_with is_digit rest ≡ false → IsToken Number own own rest
   sign : {b : ℕ} {rest : List ℕ} → is_sign b ≡ true → IsToken Sign (b ∷ []) (b ∷ []) rest
   quoted : {q : ℕ} {kind : TokenKind} {inside bytes own rest : List ℕ} → quoted_kind q ≡ Some kind
       → own ≡ q ∷ (inside ++ q ∷ []) → StandsFor q inside bytes → begins_with (λ b. b == q) rest ≡ false
