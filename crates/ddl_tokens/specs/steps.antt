@@ -1,0 +1,2 @@
+-- What private calls and proofs go by.
+pub mod Lexer

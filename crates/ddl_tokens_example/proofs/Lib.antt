@@ -1,0 +1,2 @@
+mod KindAhead
+mod OrderLaws
