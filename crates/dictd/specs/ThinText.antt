@@ -2,6 +2,7 @@
 use Rattle.std.specs.Prelude.{◌≡◌, ◌≢◌, ◌≤◌, ◌==◌, ℕ, List, [], ◌∷◌, ◌++◌, ◌⊎◌, length, codes, false, ⊤, if◌then◌else◌}
 use Rattle.std.specs.List.{AllByRecursion, flat_map}
 use Rattle.dict_value.specs.Split.{Lacks}
+use Rattle.dict_schema.specs.declared.definition.Update.TheVariants as update
 use Rattle.dict_schema.specs.declared.definition.SourceOf.{SourceOf}
 use Rattle.dict_schema.specs.declared.definition.Kind.TheVariants.{Executable}
 use Rattle.dict_value.specs.declared.value.Format.TheVariants.{Tab}
@@ -49,6 +50,7 @@ source_of command = record {
   end_s = 10;
   pool_size = 16;
   execution_s = 10;
+  update = update.None;
 }
 
 -- the text of a definition, with what stands behind its semicolon

@@ -4,7 +4,7 @@ ghost use Rattle.std.specs.List.{AllByRecursion};
 ghost use Rattle.dict_value.specs.Split.{Lacks};
 ghost use Rattle.dictd.specs.ThinText.{IsLetter, IsNameByte, IsBareName, IsCommandByte, IsCommand, doubled, source_of, IsFaultAt, IsClosed, HasFields, HasNoFields, HasNames, Defines};
 
-use dict_schema::{Format, Kind, SourceOf};
+use dict_schema::{Format, Kind, SourceOf, Update};
 use dict_value::{Bytes, NoMemory, split_at_byte};
 use std::alloc::Global;
 
@@ -219,6 +219,7 @@ fn source_from(command: Bytes) -> SourceOf
         end_s: 10,
         pool_size: 16,
         execution_s: 10,
+        update: Update::None,
     }
 }
 

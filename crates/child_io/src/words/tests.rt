@@ -1,5 +1,5 @@
 use super::*;
-use dict_schema::{Format, Kind};
+use dict_schema::{Format, Kind, Update};
 use std::process::Abort;
 use std::test::Fail;
 
@@ -16,6 +16,7 @@ fn source(alloc: Global, command: &[u8], direct: bool) -> Result<SourceOf, NoMem
         end_s: 0,
         pool_size: 0,
         execution_s: 0,
+        update: Update::None,
     })
 }
 
