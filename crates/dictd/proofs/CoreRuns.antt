@@ -1,7 +1,8 @@
 -- A core stepped by the events of a load.
-use Rattle.std.proofs.Common.{◌≡◌, ◌<◌, ◌+◌, ℕ, List, [], ◌∷◌, ◌++◌, length, map, refl, ap, sym, ◌∙◌, subst, arith, Result, Ok, Err, Bool, true, false, nat_lt}
+use Rattle.std.proofs.Common.{◌≡◌, ◌<◌, ◌+◌, ℕ, List, [], ◌∷◌, ◌++◌, length, map, refl, ap, sym, ◌∙◌, subst, arith, Result, Ok, Err, Option, Bool, true, false, nat_lt}
 use Rattle.std.specs.List.{concat}
 use Rattle.dict_value.specs.declared.fault.Exit.{Exit}
+use Rattle.child_io.specs.declared.child.Script.{Script}
 use Rattle.child_io.specs.declared.pieces.PieceEnd.{PieceEnd}
 use Rattle.load_core.specs.declared.dictionary.DictCore.{DictCore}
 use Rattle.load_core.specs.declared.dictionary.DictEvent.{DictEvent}
@@ -16,7 +17,7 @@ use Rattle.load_core.specs.declared.flat.TableFault.{TableFault}
 use Rattle.load_core.specs.declared.flat.TableFault.TheVariants.{Refused, NoMemory}
 use Rattle.dictd.specs.declared.ending.LoadEnd.{LoadEnd}
 use Rattle.dictd.specs.declared.ending.LoadEnd.TheVariants.{Published, Failed, NoMemory as EndNoMemory}
-use Rattle.dictd.specs.Loads.{core_after, end_events, EndsLoad, State, Runs}
+use Rattle.dictd.specs.Loads.{core_after, end_events, EndsLoad, State, Runs, RunsChild}
 use Rattle.dictd.specs.ThinRows.{Table}
 use Rattle.dictd.specs.Judged.{ReadsChild, IsRead, FinishesAs}
 
@@ -58,11 +59,20 @@ ends-load ran words output ending (Err NoMemory) end old new given finished =
     let P : LoadEnd → Type 0 = λ e. EndsLoad output ending e old new in
     subst P (sym finished.0) finished.1
 
-pub runs : (ran : List (List ℕ) → List ℕ → Exit → Type 0) (words : List (List ℕ)) (old new : State) (read : Result (Table) TableFault) (end : LoadEnd) → (stepped old.core Start).core.phase ≡ Reading → ReadsChild old.scripts new.scripts ran words read → FinishesAs old.versions read end new.versions → new.core ≡ core_after (stepped old.core Start).core (end_events end) → Runs old end new
-runs ran words old new read end reading r finished core = record {
+pub runs : (run : PieceEnd → List (List ℕ) → Type 0) (ran : List (List ℕ) → List ℕ → Exit → Type 0) (words : List (List ℕ)) (old new : State) (read : Result (Table) TableFault) (end : LoadEnd) → (stepped old.core Start).core.phase ≡ Reading → ReadsChild old.scripts new.scripts run ran words read → FinishesAs old.versions read end new.versions → new.core ≡ core_after (stepped old.core Start).core (end_events end) → Runs old end new
+runs run ran words old new read end reading r finished core = record {
   pieces = r.pieces;
   ending = r.ending;
   child = r.child;
   list = ends-load ran words (concat r.pieces) r.ending read end old.versions new.versions r.given finished;
   core = core ∙ ap (λ c. core_after c (end_events end)) (sym (pieces-keep (stepped old.core Start).core r.pieces reading)) ∙ sym (core_after-append (stepped old.core Start).core (map (λ piece. Piece (length piece)) r.pieces) (end_events end));
+}
+
+-- the load of a child that was run so
+pub runs-child : (old new : Option (List Script)) (run : PieceEnd → List (List ℕ) → Type 0) (ran : List (List ℕ) → List ℕ → Exit → Type 0) (words : List (List ℕ)) (read : Result (Table) TableFault) (end : LoadEnd) (before after : List Table) → ReadsChild old new run ran words read → FinishesAs before read end after → RunsChild run end before after
+runs-child old new run ran words read end before after r finished = record {
+  pieces = r.pieces;
+  ending = r.ending;
+  asked = r.asked;
+  list = ends-load ran words (concat r.pieces) r.ending read end before after r.given finished;
 }

@@ -27,9 +27,13 @@ IsRead ran words output ending (Ok rows) = (ending ≡ Ended (Code (pos 0))) × 
 IsRead ran words output ending (Err (Refused cause)) = IsCause output ending cause
 IsRead ran words output ending (Err NoMemory) = ⊤
 
-pub record ReadsChild (old new : Option (List Script)) (ran : List (List ℕ) → List ℕ → Exit → Type 0) (words : List (List ℕ)) (result : Result Table TableFault) : Type 0 where
+-- one child was started without input and run so, and this is what its output and end give
+pub record ReadsChild (old new : Option (List Script)) (run : PieceEnd → List (List ℕ) → Type 0)
+    (ran : List (List ℕ) → List ℕ → Exit → Type 0) (words : List (List ℕ)) (result : Result Table TableFault)
+    : Type 0 where
   pub pieces : List (List ℕ)
   pub ending : PieceEnd
+  pub asked : run ending pieces
   pub child : RunTold old new [] most_output ending pieces
   pub given : IsRead ran words (concat pieces) ending result
 

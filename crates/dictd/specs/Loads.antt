@@ -77,6 +77,13 @@ pub record Runs (old : State) (end : LoadEnd) (new : State) : Type 0 where
   pub list : EndsLoad (concat pieces) ending end old.versions new.versions
   pub core : new.core ≡ core_after old.core (load_events pieces end)
 
+-- A load whose child was run so: with the pieces and the end that this says of it the load ends.
+pub record RunsChild (run : PieceEnd → List (List ℕ) → Type 0) (end : LoadEnd) (old new : List Table) : Type 0 where
+  pub pieces : List (List ℕ)
+  pub ending : PieceEnd
+  pub asked : run ending pieces
+  pub list : EndsLoad (concat pieces) ending end old new
+
 -- a load runs as long as the loads aren't used up
 abbrev pub Loads : State → LoadEnd → State → Type 0
 Loads old end new = ((old.core.loads < most_loads) × Runs old end new) ⊎ ((most_loads ≤ old.core.loads) × (end ≡ Failed Spent) × (new ≡ old))

@@ -4,15 +4,16 @@ ghost use Rattle.std.specs.Result.{ForOk};
 ghost use Rattle.load_core.specs.DictSteps.{empty_core};
 ghost use Rattle.dict_schema.specs.declared.definition.ShapeColumn.{ShapeColumn};
 ghost use Rattle.load_core.specs.declared.dictionary.Phase.TheVariants.{Reading};
-ghost use Rattle.dictd.specs.Loads.{Loads, core_after, end_events, IsOrigin, IsIdle};
+ghost use Rattle.dictd.specs.Loads.{Loads, RunsChild, core_after, end_events, most_loads, IsOrigin, IsIdle};
 ghost use Rattle.load_core.specs.declared.dictionary.DictEvent.TheVariants.{Finish, Post};
 ghost use Rattle.load_core.specs.declared.dictionary.Ending.TheVariants.{Failed as EndFailed};
 ghost use Rattle.dictd.specs.ThinRows.{plain_column, thin_shape};
+ghost use Rattle.child_io.specs.Runs.{RanChild, order_of};
 ghost use Rattle.dictd.specs.Judged.{IsJudged, ReadsChild, PublishesAs, FinishesAs};
 
 use crate::ending::LoadEnd;
 use child_io::{Gathered, PieceEnd, Pieces, Spawner, run_pieces};
-use dict_schema::{Role, Shape, ShapeColumn};
+use dict_schema::{Role, Shape, ShapeColumn, SourceOf};
 use dict_value::{
     AttrType, Bytes, Cause, ColType, Exit, Format, ListOf, NoMemory, Rows, default_of,
 };
@@ -24,9 +25,6 @@ use version_slot::{Fact, PlainSlot, Publisher, Token};
 
 /// The greatest number of bytes that one run may print.
 pub const MOST_OUTPUT: u32 = 67_108_864;
-
-/// How long a read of a child may take, in milliseconds.
-pub const READ_MS: u32 = 10_000;
 
 /// Names the words that the children of a slot are started with.
 pub trait ChildWords {
@@ -152,19 +150,22 @@ fn read_child<S: Spawner>(
     alloc: Global,
     spawner: &mut S,
     words: &[Bytes],
+    read_ms: u32,
     shape: &Shape,
     core: &mut DictCore,
 ) -> Result<Rows, TableFault>
     requires reading { core.old.phase ≡ Reading }
     requires shape { shape.now ≡ thin_shape }
     ensures core { core.new ≡ core.old }
-    ensures read { ReadsChild (S.scripts spawner.old) (S.scripts spawner.new) S.ran words.now result }
+    ensures read { let order = order_of words.now [] MOST_OUTPUT read_ms in
+        ReadsChild (S.scripts spawner.old) (S.scripts spawner.new)
+        (RanChild S.started S.C.told S.C.history S.C.faults order spawner.old spawner.new) S.ran words.now result }
 {
     let mut taken = LoadPieces {
         core: *core,
         gathered: Gathered::new(alloc),
     };
-    let end = run_pieces(spawner, words, &[], MOST_OUTPUT, READ_MS, &mut taken);
+    let end = run_pieces(spawner, words, &[], MOST_OUTPUT, read_ms, &mut taken);
     *core = taken.core;
     judge(alloc, shape, &taken.gathered, end)
 }
@@ -226,6 +227,8 @@ fn finish<S: Spawner, W: ChildWords>(
 #[derive(Drop)]
 pub struct Dictionary<S: Spawner, W: ChildWords> {
     pub words: ListOf<Bytes>,
+    /// How long a read of a child may take, in milliseconds.
+    pub read_ms: u32,
     pub shape: Shape,
     pub versions: PlainSlot<Rows, Origin<S, W>>,
     pub core: DictCore,
@@ -235,14 +238,22 @@ pub struct Dictionary<S: Spawner, W: ChildWords> {
 }
 
 impl<S: Spawner, W: ChildWords> Dictionary<S, W> {
-    pub fn new(alloc: Global, words: ListOf<Bytes>, shape: Shape) -> Dictionary<S, W>
+    /// A dictionary without a version, of the children's words, the definition's source, and the columns.
+    pub fn new(
+        alloc: Global,
+        words: ListOf<Bytes>,
+        source: &SourceOf,
+        shape: Shape,
+    ) -> Dictionary<S, W>
         requires words { words ≡ W.words }
         requires shape { shape ≡ thin_shape }
         ensures versions { result.versions ≡ [] }
         ensures core { result.core ≡ empty_core }
+        ensures read_ms { result.read_ms ≡ source.now.read_ms }
     {
         Dictionary {
             words,
+            read_ms: source.read_ms,
             shape,
             versions: PlainSlot::new(alloc),
             core: DictCore::new(),
@@ -251,7 +262,12 @@ impl<S: Spawner, W: ChildWords> Dictionary<S, W> {
 
     /// One load, which leaves the list of versions where it fails.
     pub fn load(&mut self, alloc: Global, spawner: &mut S) -> LoadEnd
-        ensures { Loads (record { versions = self.old.versions; core = self.old.core; scripts = S.scripts spawner.old }) result (record { versions = self.new.versions; core = self.new.core; scripts = S.scripts spawner.new }) }
+        ensures load { Loads (record { versions = self.old.versions; core = self.old.core; scripts = S.scripts spawner.old }) result (record { versions = self.new.versions; core = self.new.core; scripts = S.scripts spawner.new }) }
+        // Its child, where one was started, was read with the limit of the definition.
+        ensures asked { self.old.core.loads < most_loads → (let order = order_of self.old.words [] MOST_OUTPUT self.old.read_ms in
+            RunsChild (RanChild S.started S.C.told S.C.history S.C.faults order spawner.old spawner.new)
+            result self.old.versions self.new.versions) }
+        ensures read_ms { self.new.read_ms ≡ self.old.read_ms }
     {
         let mut core = self.core;
         match core.step(DictEvent::Start) {
@@ -262,6 +278,7 @@ impl<S: Spawner, W: ChildWords> Dictionary<S, W> {
             alloc,
             spawner,
             self.words.as_slice(),
+            self.read_ms,
             &self.shape,
             &mut core,
         );

@@ -16,7 +16,7 @@ use crate::thin::{ThinDefinition, ThinFault, read_thin};
 use crate::words::once_file;
 use child_io::{Spawner, folder_of, words_of};
 use dict_io::{Clock, Failed, Shelf, ShelfFault, Sink, Source};
-use dict_schema::Shape;
+use dict_schema::{Shape, SourceOf};
 use dict_value::{Bytes, ListOf};
 use std::alloc::Global;
 use std::marker::Brand;
@@ -55,6 +55,7 @@ fn serve<S: Spawner, W: ChildWords, I: Source, O: Sink>(
     alloc: Global,
     requests: &Requests,
     words: ListOf<Bytes>,
+    source: &SourceOf,
     shape: Shape,
     spawner: &mut S,
     input: &mut I,
@@ -71,7 +72,7 @@ fn serve<S: Spawner, W: ChildWords, I: Source, O: Sink>(
     ensures writes { HasCause (O.write_faults out.old) (O.write_faults out.new) (result ≡ Status.WriteFault) }
     ensures run { (d : ThinDefinition) → IsRequestsOf d requests.now → ServesRun d S.ran W.words (record { scripts = S.scripts spawner.old; left = I.left input.old; written = O.written out.old }) (record { scripts = S.scripts spawner.new; left = I.left input.new; written = O.written out.new }) result }
 {
-    let mut dictionary = Dictionary::<S, W>::new(alloc, words, shape);
+    let mut dictionary = Dictionary::<S, W>::new(alloc, words, source, shape);
     dictionary.load(alloc, spawner);
     let Ok(asked) = read_input(alloc, input) else {
         return Status::NoMemory;
@@ -146,6 +147,7 @@ fn run<F: Shelf, S: Spawner, C: Clock, I: Source, O: Sink>(
         alloc,
         &requests,
         child_words,
+        &definition.source,
         shape,
         spawner,
         input,

@@ -5,6 +5,9 @@ use Rattle.dict_value.specs.declared.fault.Cause.{Cause}
 use Rattle.dict_value.specs.declared.fault.Cause.TheVariants as cause
 use Rattle.dict_value.specs.declared.value.Format.TheVariants.{Tab}
 use Rattle.dict_value.specs.declared.value.Value.{Value}
+use Rattle.dict_value.specs.declared.value.Value.TheVariants as value
+use Rattle.std.proofs.lemmas.Bool.{cases_lt}
+use Rattle.row_text.proofs.EachText.{some-decoding}
 use Rattle.row_text.specs.declared.decode.DecodeFault.{DecodeFault}
 use Rattle.row_text.specs.declared.decode.DecodeFault.TheVariants as decode
 use Rattle.row_text.specs.Decoding.{Decodes}
@@ -92,3 +95,45 @@ one-verdict number text None None p q = refl
 one-verdict number text None (Some c) (rows, t) q = absurd (not-refused (Decodes Tab world_columns text) (one-decoding Tab world_columns text) rows c t q)
 one-verdict number text (Some c) None p (rows, t) = absurd (not-refused (Decodes Tab world_columns text) (one-decoding Tab world_columns text) rows c t p)
 one-verdict number text (Some c) (Some d) p q = ap Some (one-cause (Decodes Tab world_columns text) (one-decoding Tab world_columns text) c d p q)
+
+-- a row's key is small, or is large
+row-key : (row : List Value) → HasSmallKey row ⊎ ((key : ℕ) × HasKey row key × (key_bound ≤ key))
+row-key [] = inl (λ key h. absurd (cc (h.1)))
+row-key (value.U n ∷ row) = elim (cases_lt n key_bound) [
+    | inl lt ↦ inl (λ key h. let same : n ≡ key = cc (h.1) in omega arith)
+    | inr ge ↦ inr (n, (row, refl), ge)
+  ]
+row-key (value.Null ∷ row) = inl (λ key h. absurd (cc (h.1)))
+row-key (value.I z ∷ row) = inl (λ key h. absurd (cc (h.1)))
+row-key (value.S text ∷ row) = inl (λ key h. absurd (cc (h.1)))
+row-key (value.Day n ∷ row) = inl (λ key h. absurd (cc (h.1)))
+row-key (value.Second n ∷ row) = inl (λ key h. absurd (cc (h.1)))
+row-key (value.Id n ∷ row) = inl (λ key h. absurd (cc (h.1)))
+row-key (value.V4 n ∷ row) = inl (λ key h. absurd (cc (h.1)))
+row-key (value.V6 n ∷ row) = inl (λ key h. absurd (cc (h.1)))
+row-key (value.Dec z ∷ row) = inl (λ key h. absurd (cc (h.1)))
+
+-- of a list of rows each key is small, or there is a first large one
+first-key : (rows : List (List Value)) → AllByRecursion HasSmallKey rows ⊎ ((key : ℕ) × IsFirstLarge rows key)
+first-key [] = inl tt
+first-key (row ∷ rows) = elim (row-key row) [
+    | inr (key, has, large) ↦ inr (key, record { before = []; row = row; after = rows; parts = refl; small = tt; here = has; large = large })
+    | inl small ↦ elim (first-key rows) [
+        | inl all ↦ inl (small, all)
+        | inr (key, f) ↦ inr (key, record { before = row ∷ f.before; row = f.row; after = f.after; parts = ap (λ (z : List (List Value)). row ∷ z) f.parts; small = (small, f.small); here = f.here; large = f.large })
+      ]
+  ]
+
+-- each text has a verdict
+pub some-verdict : (number : ℕ) (text : List ℕ) → (verdict : Option Cause) × row_verdicts number text verdict
+some-verdict number text = go (some-decoding Tab world_columns text)
+  where
+    table : (rows : List (List Value)) → Decodes Tab world_columns text (Ok rows) → AllByRecursion HasSmallKey rows ⊎ ((key : ℕ) × IsFirstLarge rows key) → (verdict : Option Cause) × row_verdicts number text verdict
+    table rows d (inl small) = (None, (rows, record { decoded = d; keys = small }))
+    table rows d (inr (key, first)) = (Some (cause.Key key), (rows, d, first))
+
+    go : (answer : Result (List (List Value)) DecodeFault) × Decodes Tab world_columns text answer → (verdict : Option Cause) × row_verdicts number text verdict
+    go (Ok rows, d) = table rows d (first-key rows)
+    go (Err (decode.Bad bad), d) = (Some (cause.Row bad), d)
+    go (Err decode.TooMany, d) = (Some cause.Rows, d)
+    go (Err decode.NoMemory, d) = absurd d

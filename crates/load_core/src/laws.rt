@@ -27,8 +27,9 @@ pub fn core_law<J: Judge>()
     ensures never_below { NeverBelowLearnt J.judges }
 {}
 
-/// The judge of `World::run` gives one verdict on a text: it is accepted, or refused for one cause.
+/// The judge of `World::run` gives one verdict on each text: it is accepted, or refused for one cause.
 pub fn one_verdict()
-    ensures { (number : ℕ) (text : List ℕ) (verdict other : Option Cause) → row_verdicts number text verdict
+    ensures some { (number : ℕ) (text : List ℕ) → (verdict : Option Cause) × row_verdicts number text verdict }
+    ensures one { (number : ℕ) (text : List ℕ) (verdict other : Option Cause) → row_verdicts number text verdict
         → row_verdicts number text other → verdict ≡ other }
 {}

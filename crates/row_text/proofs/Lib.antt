@@ -14,4 +14,4 @@ mod CsvWritten
 pub mod Tabled
 pub mod OneDecoding
 pub mod CutGrowth
-mod EachText
+pub mod EachText

@@ -12,5 +12,5 @@ returns-clause-run g c = λ d is.
     let P : Status → Type 0 = λ z. ServesRun d g.S.Spawner.ran g.W.ChildWords.words before after z in
     subst P (sym c.status_of.ensures)
     (serves-run d g.S.Spawner.ran g.W.ChildWords.words before after c.load.result _ _ read.asked
-    (first-load c.new-dictionary.result.versions c.new-dictionary.result.core before c.load.result _ c.new-dictionary.ensures.versions c.new-dictionary.ensures.core c.load.ensures)
+    (first-load c.new-dictionary.result.versions c.new-dictionary.result.core before c.load.result _ c.new-dictionary.ensures.versions c.new-dictionary.ensures.core c.load.ensures.load)
     read.taken c.number-published.ensures.fact refl c.in-Ok.asked.end c.in-Ok.asked.text c.serve_input-served.result read.far read.text (c.serve_input-served.ensures.served d is))
