@@ -6,6 +6,7 @@ use Rattle.std.proofs.lemmas.Bool.Decides.{nat_tests}
 use Rattle.std.proofs.lemmas.List.Folds.{concat-append}
 use Rattle.std.proofs.lemmas.List.Elements.{All-nil}
 use Rattle.std.specs.List.{concat}
+use Rattle.dict_value.specs.Memory.{UnlessNoMemory}
 use Rattle.dict_io.specs.Outside.{HasCause}
 use Rattle.dict_io.specs.declared.outside.Failed.{Failed}
 use Rattle.child_io.specs.Told.{Told, fresh, IsFresh, RanAs, StartTold, read_fails, read_times_out}
@@ -100,7 +101,7 @@ pub cause-from : (before mid now : ℕ) (failed : Type 0) → mid ≡ before →
 cause-from before mid now failed same h = subst (λ z. HasCause z now failed) same h
 
 -- an outcome with all bytes
-pub whole-of : (g : Gathered) (end : PieceEnd) (lost : Bool) (pieces : List (List ℕ)) → (lost ≡ false → g.bytes ≡ concat pieces) → IsWhole (if lost then outcome.NoMemory else outcome_of end g.bytes) end pieces
+pub whole-of : (g : Gathered) (end : PieceEnd) (lost : Bool) (pieces : List (List ℕ)) → (lost ≡ false → g.bytes ≡ concat pieces) → UnlessNoMemory outcome.NoMemory (if lost then outcome.NoMemory else outcome_of end g.bytes) ((if lost then outcome.NoMemory else outcome_of end g.bytes) ≡ outcome_of end (concat pieces))
 whole-of g end true pieces h = λ some. absurd (some refl)
 whole-of g end false pieces h = λ some. ap (outcome_of end) (h refl)
 
@@ -125,20 +126,20 @@ gathers-next counted next kept more piece lost pieces up grows g =
       λ l. grows l ∙ ap (λ z. z ++ piece) (g.1 l) ∙ ap (λ z. concat pieces ++ z) (sym (append-nil piece)) ∙ sym (concat-append pieces (piece ∷ [])),
     )
 
+whole-starts : (g : Gathered) (end : PieceEnd) (lost : Bool) → lost ≡ false → end ≡ NotStarted → (if lost then outcome.NoMemory else outcome_of end g.bytes) ≡ outcome.NotStarted
+whole-starts g end lost l e = rw (l, e) refl
+
 -- a run whose pieces were gathered
-pub whole-run : (g : Gathered) (end : PieceEnd) (limit : ℕ) (by_script by_child in_full : List (List ℕ) → Type 0) → HandsOn (Gathers g) limit by_script by_child in_full → HandsOn (IsWhole (gathered_outcome g end) end) limit by_script by_child in_full
-whole-run g end limit by_script by_child in_full h = record {
+pub whole-run : (g : Gathered) (end : PieceEnd) (limit : ℕ) (by_script by_child in_full : List (List ℕ) → Type 0) → (end ≡ NotStarted → g.lost ≡ false) → HandsOn (Gathers g) limit by_script by_child in_full → HandsOn (IsWhole (gathered_outcome g end) end) limit by_script by_child in_full
+whole-run g end limit by_script by_child in_full l h = record {
   pieces = h.pieces;
-  handed = whole-of g end g.lost h.pieces h.handed.1;
+  handed = ((λ e. whole-starts g end g.lost (l e) e), whole-of g end g.lost h.pieces h.handed.1);
   some = h.some;
   within = h.within;
   told = h.told;
   child = h.child;
   full = h.full;
 }
-
-whole-starts : (g : Gathered) (end : PieceEnd) (lost : Bool) → lost ≡ false → end ≡ NotStarted → (if lost then outcome.NoMemory else outcome_of end g.bytes) ≡ outcome.NotStarted
-whole-starts g end lost l e = rw (l, e) refl
 
 -- it wasn't started exactly where the run wasn't
 pub whole-cause : (g : Gathered) (end : PieceEnd) (before now : ℕ) → (end ≡ NotStarted → g.lost ≡ false) → HasCause before now (end ≡ NotStarted) → HasCause before now (gathered_outcome g end ≡ outcome.NotStarted)

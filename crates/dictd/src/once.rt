@@ -66,9 +66,7 @@ fn serve<S: Spawner, W: ChildWords, I: Source, O: Sink>(
     requires shape { shape ≡ thin_shape }
     requires input { I.ended input.old ≡ false }
     ensures reads { RoseWhere (I.read_faults input.old) (I.read_faults input.new) (result ≡ Status.ReadFault) }
-    ensures reads_well {
-        result ≢ Status.ReadFault → result ≢ Status.WriteFault → I.read_faults input.new ≡ I.read_faults input.old
-    }
+    ensures reads_well { result ≢ Status.ReadFault → result ≢ Status.WriteFault → I.read_faults input.new ≡ I.read_faults input.old }
     ensures writes { HasCause (O.write_faults out.old) (O.write_faults out.new) (result ≡ Status.WriteFault) }
     ensures run { (d : ThinDefinition) → IsRequestsOf d requests.now → ServesRun d S.ran W.words (record { scripts = S.scripts spawner.old; left = I.left input.old; written = O.written out.old }) (record { scripts = S.scripts spawner.new; left = I.left input.new; written = O.written out.new }) result }
 {
@@ -116,9 +114,7 @@ fn run<F: Shelf, S: Spawner, C: Clock, I: Source, O: Sink>(
     requires { I.ended input.old ≡ false }
     ensures shelf { HasCause (F.shelf_faults shelf.old) (F.shelf_faults shelf.new) (result ≡ Status.DefsUnread) }
     ensures reads { RoseWhere (I.read_faults input.old) (I.read_faults input.new) (result ≡ Status.ReadFault) }
-    ensures reads_well {
-        result ≢ Status.ReadFault → result ≢ Status.WriteFault → I.read_faults input.new ≡ I.read_faults input.old
-    }
+    ensures reads_well { result ≢ Status.ReadFault → result ≢ Status.WriteFault → I.read_faults input.new ≡ I.read_faults input.old }
     ensures writes { HasCause (O.write_faults out.old) (O.write_faults out.new) (result ≡ Status.WriteFault) }
     ensures run { OnceRun (map string_bytes words.now) (F.file shelf.old) S.ran (record { scripts = S.scripts spawner.old; left = I.left input.old; written = O.written out.old }) (record { scripts = S.scripts spawner.new; left = I.left input.new; written = O.written out.new }) result }
 {
@@ -172,9 +168,7 @@ pub fn once<F: Shelf, S: Spawner, C: Clock, I: Source, O: Sink, E: Sink>(
     requires { I.ended input.old ≡ false }
     ensures shelf { HasCause (F.shelf_faults shelf.old) (F.shelf_faults shelf.new) (result ≡ Status.DefsUnread) }
     ensures reads { RoseWhere (I.read_faults input.old) (I.read_faults input.new) (result ≡ Status.ReadFault) }
-    ensures reads_well {
-        result ≢ Status.ReadFault → result ≢ Status.WriteFault → I.read_faults input.new ≡ I.read_faults input.old
-    }
+    ensures reads_well { result ≢ Status.ReadFault → result ≢ Status.WriteFault → I.read_faults input.new ≡ I.read_faults input.old }
     ensures writes { HasCause (O.write_faults out.old) (O.write_faults out.new) (result ≡ Status.WriteFault) }
     ensures run { OnceRun (map string_bytes words.now) (F.file shelf.old) S.ran (record { scripts = S.scripts spawner.old; left = I.left input.old; written = O.written out.old }) (record { scripts = S.scripts spawner.new; left = I.left input.new; written = O.written out.new }) result }
     ensures told { Tells (E.written err.old) (E.written err.new) (status_text result) (Rose (E.write_faults err.old) (E.write_faults err.new)) }
