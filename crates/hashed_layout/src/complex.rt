@@ -6,7 +6,7 @@ ghost use Rattle.dict_value.specs.declared.value.Value.{Value};
 ghost use Rattle.hashed_layout.specs.KeyTables.{IsKeyTableOf, key_home, start_of};
 ghost use Rattle.hashed_layout.specs.steps.KeyFilling.{IsKeyTableTo, StopsAt, TellsKey};
 
-use crate::key_bytes::{begins_with_key, hash_of, push_key};
+use crate::key_bytes::{begins_with_key, hash_of, push_key, room_for};
 use crate::probing::{home_at, probed};
 use dict_value::{Bytes, KeyList, ListOf, NoMemory};
 use std::alloc::Global;
@@ -123,8 +123,8 @@ impl Complex {
         requires { length keys.now ≤ MOST_ROWS }
         ensures { IfOk result (λ table. IsKeyTableOf keys.now table.bytes table.entries table.cells.items) }
     {
-        let mut bytes = Bytes::new(alloc);
-        let mut entries = ListOf::new(alloc);
+        let mut bytes = Bytes::with_room(alloc, room_for(keys))?;
+        let mut entries = ListOf::with_room(alloc, keys.len())?;
         let Ok(mut cells) = Vec::from_elem(alloc, 0u32, 2 * keys.len()) else {
             return Err(NoMemory);
         };

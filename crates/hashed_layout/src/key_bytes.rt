@@ -134,3 +134,16 @@ pub(crate) fn hash_of(key: &KeyList) -> u64
     }
     hasher.finish()
 }
+
+/// About how many bytes key lists have, so that they are stored without growing; any number would do.
+pub(crate) fn room_for(keys: &[KeyList]) -> usize {
+    let mut room: usize = 0;
+    for key in keys {
+        for value in key.as_slice() {
+            let size = head_of(value).len + string_of(value).len();
+            room = room.saturating_add(size);
+        }
+        room = room.saturating_add(1);
+    }
+    room
+}

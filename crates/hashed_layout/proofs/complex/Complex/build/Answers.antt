@@ -12,8 +12,8 @@ loop-row-init c =
     let is = c.in-Ok.ensures.items_if_clones_equal (λ y e. e) in
     record {
       len = ap length is ∙ length-replicate n 0;
-      table = subst (λ (x : List ℕ). IsKeyTableTo c.args.keys.now 0 x c.new-entries.result c.in-Ok.cells.items) (sym c.new-bytes.ensures)
-          (subst (λ (x : List Entry). IsKeyTableTo c.args.keys.now 0 [] x c.in-Ok.cells.items) (sym c.new-entries.ensures)
+      table = subst (λ (x : List ℕ). IsKeyTableTo c.args.keys.now 0 x c.in_ok-entries.entries c.in-Ok.cells.items) (sym c.in_ok-bytes.ensures)
+          (subst (λ (x : List Entry). IsKeyTableTo c.args.keys.now 0 [] x c.in-Ok.cells.items) (sym c.in_ok-entries.ensures)
           (subst (λ (x : List ℕ). IsKeyTableTo c.args.keys.now 0 [] [] x) (sym is) (no-rows c.args.keys.now n)));
     }
 
