@@ -1,6 +1,7 @@
 // The plain program that the proved one is compared with: an array for small keys, and std's HashMap for
-// keys of 64 bits. The words and the keys are those of crates/bench_lookups.
+// keys of 64 bits and for the bytes of keys of two values. The words and the keys are those of crates/bench_lookups.
 use std::collections::HashMap;
+use std::hash::Hash;
 use std::time::Instant;
 
 fn scattered(number: u64) -> u64 {
@@ -12,7 +13,7 @@ fn scattered(number: u64) -> u64 {
 
 fn key(layout: &str, count: u64, number: u64) -> u64 {
     match layout {
-        "hashed" => scattered(number),
+        "hashed" | "complex" => scattered(number),
         _ => number.wrapping_mul(7919) % count * 2 + (number / count).min(1),
     }
 }
@@ -32,6 +33,18 @@ fn asked(layout: &str, share: &str, count: u64, finds: u64) -> Vec<u64> {
         .collect()
 }
 
+/// The bytes of a key of ten letters and a small number.
+fn key_bytes(key: u64) -> Vec<u8> {
+    let mut bytes = vec![0; 11];
+    let mut rest = key;
+    for byte in &mut bytes[..10] {
+        *byte = b'a' + (rest % 26) as u8;
+        rest /= 26;
+    }
+    bytes[10] = (rest % 256) as u8;
+    bytes
+}
+
 fn array_of(keys: &[u64]) -> Vec<u32> {
     let room = keys.iter().max().map_or(0, |key| key + 1);
     let mut cells = vec![0; room as usize];
@@ -43,18 +56,18 @@ fn array_of(keys: &[u64]) -> Vec<u32> {
     cells
 }
 
-fn map_of(keys: &[u64]) -> HashMap<u64, u32> {
+fn map_of<K: Clone + Eq + Hash>(keys: &[K]) -> HashMap<K, u32> {
     let mut map = HashMap::with_capacity(keys.len());
     for (row, key) in keys.iter().enumerate() {
-        map.entry(*key).or_insert(row as u32);
+        map.entry(key.clone()).or_insert(row as u32);
     }
     map
 }
 
-fn found(asked: &[u64], find: impl Fn(u64) -> Option<u32>) -> (u64, u64) {
+fn found<K>(asked: &[K], find: impl Fn(&K) -> Option<u32>) -> (u64, u64) {
     let (mut count, mut sum) = (0, 0);
     for key in asked {
-        if let Some(place) = find(*key) {
+        if let Some(place) = find(key) {
             count += 1;
             sum += u64::from(place);
         }
@@ -68,6 +81,9 @@ fn main() {
     let numbers: Vec<u64> = words[3..6].iter().map(|word| word.parse().unwrap()).collect();
     let keys: Vec<u64> = (0..numbers[0]).map(|row| key(layout, numbers[0], row)).collect();
     let asked = asked(layout, share, numbers[0], numbers[1]);
+    let complex = layout == "complex";
+    let lists: Vec<Vec<u8>> = keys.iter().filter(|_| complex).map(|key| key_bytes(*key)).collect();
+    let asked_lists: Vec<Vec<u8>> = asked.iter().filter(|_| complex).map(|key| key_bytes(*key)).collect();
     let (mut build, mut find) = (u128::MAX, u128::MAX);
     for round in 0..=numbers[2] {
         let start = Instant::now();
@@ -75,11 +91,15 @@ fn main() {
         if layout == "hashed" {
             let map = map_of(&keys);
             middle = Instant::now();
-            (hits, sum) = found(&asked, |key| map.get(&key).copied());
+            (hits, sum) = found(&asked, |key| map.get(key).copied());
+        } else if complex {
+            let map = map_of(&lists);
+            middle = Instant::now();
+            (hits, sum) = found(&asked_lists, |key| map.get(key).copied());
         } else {
             let cells = array_of(&keys);
             middle = Instant::now();
-            (hits, sum) = found(&asked, |key| match cells.get(key as usize) {
+            (hits, sum) = found(&asked, |key| match cells.get(*key as usize) {
                 Some(cell) if *cell > 0 => Some(cell - 1),
                 _ => None,
             });

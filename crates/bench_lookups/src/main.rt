@@ -1,66 +1,105 @@
-//! Times lookups by key. The words are a layout, `flat` or `hashed`; which keys are asked, `half`, `all`
+//! Times lookups by key. The words are a layout, `flat`, `hashed` or `complex`; which keys are asked, `half`, `all`
 //! or `none` of them there; how many keys and how many finds, and a number of rounds. The program
 //! prints how many were found and, for more than no rounds, the shortest build and the shortest run of
 //! finds in microseconds.
 #![tactic(auto)]
 
-mod keys;
+mod key_source;
 
-use dict_value::{MOST_ROWS, Uncounted};
+use dict_value::{KeyList, MOST_ROWS, Uncounted};
 use flat_layout::Flat;
-use hashed_layout::Hashed;
-use keys::{Layout, Share};
+use hashed_layout::{Complex, Hashed};
+use key_source::{Layout, Share};
 use std::alloc::Global;
 use std::time::Instant;
 use std::{env, io};
+
+/// The keys of a table, or those that are asked.
+#[derive(Drop)]
+enum Keys {
+    Numbers(Vec<u64>),
+    Lists(Vec<KeyList>),
+}
 
 /// What is timed.
 #[derive(Drop)]
 enum Table {
     Flat(Flat<Uncounted>),
     Hashed(Hashed),
+    Complex(Complex),
+}
+
+/// The same keys as a layout wants them.
+fn keys_for(alloc: Global, layout: Layout, keys: Vec<u64>) -> Keys {
+    match layout {
+        Layout::Complex => Keys::Lists(key_source::key_lists(alloc, keys.as_slice())),
+        Layout::Flat | Layout::Hashed => Keys::Numbers(keys),
+    }
 }
 
 /// The table of a list of keys, or nothing where there is no memory for it or the list is too long.
-fn table_of(alloc: Global, layout: Layout, keys: &[u64]) -> Option<Table> {
-    if keys.len() > MOST_ROWS {
-        return None;
-    }
-    match layout {
-        Layout::Flat => match Flat::build(alloc, keys, 16_777_216) {
-            Ok(table) => Some(Table::Flat(table)),
-            Err(_) => None,
+fn table_of(alloc: Global, layout: Layout, keys: &Keys) -> Option<Table> {
+    match keys {
+        Keys::Numbers(numbers) if numbers.len() <= MOST_ROWS => match layout {
+            Layout::Flat => match Flat::build(alloc, numbers.as_slice(), 16_777_216) {
+                Ok(table) => Some(Table::Flat(table)),
+                Err(_) => None,
+            },
+            Layout::Hashed | Layout::Complex => match Hashed::build(alloc, numbers.as_slice()) {
+                Ok(table) => Some(Table::Hashed(table)),
+                Err(_) => None,
+            },
         },
-        Layout::Hashed => match Hashed::build(alloc, keys) {
-            Ok(table) => Some(Table::Hashed(table)),
-            Err(_) => None,
-        },
+        Keys::Lists(lists) if lists.len() <= MOST_ROWS => {
+            match Complex::build(alloc, lists.as_slice()) {
+                Ok(table) => Some(Table::Complex(table)),
+                Err(_) => None,
+            }
+        }
+        _ => None,
     }
 }
 
 /// How many of the asked keys are there, and the sum of their places.
-fn found(table: &Table, asked: &[u64]) -> (u64, u64) {
-    let mut count: u64 = 0;
-    let mut sum: u64 = 0;
-    match table {
-        Table::Flat(flat) => {
-            for key in asked {
-                if let Some(place) = flat.find(*key, &mut Uncounted) {
-                    count = count.wrapping_add(1);
-                    sum = sum.wrapping_add(u64::from(place));
-                }
-            }
-        }
-        Table::Hashed(hashed) => {
-            for key in asked {
-                if let Some(place) = hashed.find(*key) {
-                    count = count.wrapping_add(1);
-                    sum = sum.wrapping_add(u64::from(place));
-                }
-            }
+#[derive(Clone, Copy)]
+struct Found {
+    count: u64,
+    sum: u64,
+}
+
+impl Found {
+    fn and(self, place: Option<u32>) -> Found {
+        match place {
+            Some(place) => Found {
+                count: self.count.wrapping_add(1),
+                sum: self.sum.wrapping_add(u64::from(place)),
+            },
+            None => self,
         }
     }
-    (count, sum)
+}
+
+fn finds(table: &Table, asked: &Keys) -> Found {
+    let mut found = Found { count: 0, sum: 0 };
+    match (table, asked) {
+        (Table::Flat(flat), Keys::Numbers(numbers)) => {
+            for key in numbers {
+                found = found.and(flat.find(*key, &mut Uncounted));
+            }
+        }
+        (Table::Hashed(hashed), Keys::Numbers(numbers)) => {
+            for key in numbers {
+                found = found.and(hashed.find(*key));
+            }
+        }
+        (Table::Complex(complex), Keys::Lists(lists)) => {
+            for key in lists {
+                found = found.and(complex.find(key));
+            }
+        }
+        _ => {}
+    }
+    found
 }
 
 /// The number that a word is, or another one.
@@ -75,32 +114,34 @@ fn main(rt: HostRuntime) -> io::Result<()> {
     let mut words = env::args(&rt)?;
     let _program = words.next();
     let layout = match words.next() {
-        Some(word) => keys::layout_of(word.as_str()),
+        Some(word) => key_source::layout_of(word.as_str()),
         None => Layout::Flat,
     };
     let share = match words.next() {
-        Some(word) => keys::share_of(word.as_str()),
+        Some(word) => key_source::share_of(word.as_str()),
         None => Share::Half,
     };
     let count = number_or(words.next(), 1_000);
-    let finds = number_or(words.next(), 10_000);
+    let find_count = number_or(words.next(), 10_000);
     let rounds = number_or(words.next(), 0);
-    let keys = keys::keys(rt.alloc(), layout, count)?;
-    let asked = keys::asked(rt.alloc(), layout, share, count, finds)?;
+    let stored = key_source::keys(rt.alloc(), layout, count)?;
+    let keys = keys_for(rt.alloc(), layout, stored);
+    let drawn = key_source::asked(rt.alloc(), layout, share, count, find_count)?;
+    let asked = keys_for(rt.alloc(), layout, drawn);
     let mut build = u128::MAX;
     let mut find = u128::MAX;
     for round in 0..=rounds {
         let start = Instant::now(&rt)?;
-        let Some(table) = table_of(rt.alloc(), layout, keys.as_slice()) else {
+        let Some(table) = table_of(rt.alloc(), layout, &keys) else {
             println!(rt; "no table")?;
             return Ok(());
         };
         build = build.min(start.elapsed(&rt)?.as_micros());
         let start = Instant::now(&rt)?;
-        let (hits, sum) = found(&table, asked.as_slice());
+        let seen = finds(&table, &asked);
         find = find.min(start.elapsed(&rt)?.as_micros());
         if round == 0 {
-            println!(rt; "found {hits} sum {sum}")?;
+            println!(rt; "found {} sum {}", seen.count, seen.sum)?;
         }
     }
     if rounds > 0 {

@@ -28,6 +28,15 @@ module _ {K : Type 0} (size home : ℕ) (held : ℕ → Option K) (key : K) wher
         ]
       ]
 
+  -- the cell that the probes came to meets the key that it holds
+  pub met-here : (i : ℕ) → Lands size home held key i → held i ≡ Some key → IsMet size home held key
+  met-here i l same = record {
+    probe = l.probe;
+    near = l.near;
+    met = subst (λ j. held j ≡ Some key) l.at same;
+    taken = λ earlier sooner none. let p = l.passes earlier sooner in absurd (cc (none, p.1));
+  }
+
 -- a cell that is filled
 module _ {K : Type 0} (size : ℕ) (held new : ℕ → Option K) (i : ℕ) (free : held i ≡ None) (others : (j : ℕ) → j ≢ i → new j ≡ held j) where
   taken-other : (j : ℕ) → held j ≢ None → j ≢ i

@@ -10,21 +10,8 @@ use Rattle.hashed_layout.specs.Probing.{IsMet, home_of, mixed, probed}
 use Rattle.hashed_layout.specs.Tables.{IsTableOf, held, key_in, key_of}
 use Rattle.hashed_layout.specs.declared.hashed.Cell.{Cell}
 use Rattle.hashed_layout.specs.steps.Filling.{IsLeastBelow, IsTableTo, Lands, Passes, free_cells}
-use Rattle.hashed_layout.proofs.Probes.{free-ends, met-new, met-still, passed-all, probed-by}
-
--- ---- lists
-
-get-set_same : {A : Type 0} (xs : List A) (i : ℕ) (v : A) → i < length xs → slice_get (set xs i v) i ≡ Some v
-get-set_same [] i v l = absurd (omega arith)
-get-set_same (x ∷ xs) zero v l = refl
-get-set_same (x ∷ xs) (suc i) v l = get-set_same xs i v (omega arith)
-
-get-set_other : {A : Type 0} (xs : List A) (i j : ℕ) (v : A) → j ≢ i → slice_get (set xs i v) j ≡ slice_get xs j
-get-set_other [] i j v other = refl
-get-set_other (x ∷ xs) zero zero v other = absurd (other refl)
-get-set_other (x ∷ xs) zero (suc j) v other = refl
-get-set_other (x ∷ xs) (suc i) zero v other = refl
-get-set_other (x ∷ xs) (suc i) (suc j) v other = get-set_other xs i j v (λ e. other (ap suc e))
+use Rattle.hashed_layout.proofs.Lists.{get-set_other, get-set_same}
+use Rattle.hashed_layout.proofs.Probes.{free-ends, met-here, met-new, met-still, passed-all, probed-by}
 
 -- ---- what a cell holds
 
@@ -112,12 +99,7 @@ kept keys cells n i t l same = record {
     | inr new ↦
         let e : n ≡ place = omega arith in
         subst (λ p. IsMet (length cells) (home_of (length cells) (get_or keys p 0)) (held cells) (get_or keys p 0)) e
-        (record {
-          probe = l.probe;
-          near = l.near;
-          met = subst (λ j. held cells j ≡ Some (get_or keys n 0)) l.at same;
-          taken = λ earlier sooner none. let p = l.passes earlier sooner in absurd (cc (none, p.1));
-        })
+        (met-here (length cells) (home_of (length cells) (get_or keys n 0)) (held cells) (get_or keys n 0) i l same)
   ];
   room = let r = t.room in omega (arith, r);
 }
@@ -215,7 +197,7 @@ pub lands-free : (cells : List Cell) (i : ℕ) (cell : Cell) → slice_get cells
 lands-free cells i cell here free = held-free cells i cell here free
 
 -- the probes begin within the table
-part-within : (size bits : ℕ) → 0 < size → bits < 2 ^ 32 → bits * size / 2 ^ 32 < size
+pub part-within : (size bits : ℕ) → 0 < size → bits < 2 ^ 32 → bits * size / 2 ^ 32 < size
 part-within size bits some small =
     let most : bits * size ≤ (2 ^ 32 - 1) * size = mul-le-mul_right size (omega arith) in
     omega (arith, most)

@@ -14,6 +14,16 @@ pub(crate) fn mixed(n: u64) -> u64
     (once ^ (once >> 32)).wrapping_mul(0xd6e8_feb8_6659_fd93)
 }
 
+/// The cell at the part of a table that the upper half of 64 mixed bits is of all such halves.
+#[inline(always)]
+pub(crate) fn home_at(size: usize, bits: u64) -> usize
+    requires size { size < 2 ^ 24 }
+    ensures value { result ≡ part_of size (bits / 2 ^ 32) }
+    ensures within { 0 < size → result < size }
+{
+    (((bits >> 32) * size as u64) >> 32) as usize
+}
+
 /// The cell where the probes of a key begin.
 #[inline(always)]
 pub(crate) fn home_of(size: usize, key: u64) -> usize
@@ -21,7 +31,7 @@ pub(crate) fn home_of(size: usize, key: u64) -> usize
     ensures value { result ≡ home_of size key }
     ensures within { 0 < size → result < size }
 {
-    (((mixed(key) >> 32) * size as u64) >> 32) as usize
+    home_at(size, mixed(key))
 }
 
 /// The cell of a probe.

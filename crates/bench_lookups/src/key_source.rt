@@ -1,4 +1,5 @@
 // The keys that are stored and the keys that are asked.
+use dict_value::{Bytes, KeyList, ListOf, Value};
 use std::alloc::Global;
 use std::io;
 
@@ -6,6 +7,7 @@ use std::io;
 pub enum Layout {
     Flat,
     Hashed,
+    Complex,
 }
 
 /// How many of the asked keys are there.
@@ -19,6 +21,7 @@ pub enum Share {
 pub fn layout_of(word: &str) -> Layout {
     match word {
         "hashed" => Layout::Hashed,
+        "complex" => Layout::Complex,
         _ => Layout::Flat,
     }
 }
@@ -44,7 +47,7 @@ fn scattered(number: u64) -> u64 {
 fn key(layout: Layout, count: u32, number: u64) -> u64 {
     let count = u64::from(count).max(1);
     match layout {
-        Layout::Hashed => scattered(number),
+        Layout::Hashed | Layout::Complex => scattered(number),
         Layout::Flat => number.wrapping_mul(7919) % count * 2 + (number / count).min(1),
     }
 }
@@ -79,4 +82,33 @@ pub fn asked(
         keys.push(key(layout, count, number))?;
     }
     Ok(keys)
+}
+
+/// The key list of a key: a text of ten letters and a small number.
+fn key_list(alloc: Global, key: u64) -> Option<KeyList> {
+    let mut text = [b'a'; 10];
+    let mut rest = key;
+    for letter in text.iter_mut() {
+        *letter = b'a' + (rest % 26) as u8;
+        rest /= 26;
+    }
+    let mut list = ListOf::with_room(alloc, 2).ok()?;
+    list.push(Value::S(Bytes::copy_of(alloc, &text).ok()?))
+        .ok()?;
+    list.push(Value::U(rest % 256)).ok()?;
+    Some(list)
+}
+
+/// The key lists of keys, up to where there is no memory.
+pub fn key_lists(alloc: Global, keys: &[u64]) -> Vec<KeyList> {
+    let mut lists = Vec::new(alloc);
+    for key in keys {
+        let Some(list) = key_list(alloc, *key) else {
+            break;
+        };
+        if lists.push(list).is_err() {
+            break;
+        }
+    }
+    lists
 }

@@ -1,0 +1,33 @@
+-- The entry that was read tells.
+use Rattle.std.proofs.Common.{◌≡◌, ◌-◌, ◌∙◌, List, ap, arith, drop, length, refl, subst, sym}
+use Rattle.std.specs.Prelude.{IsTrue, ◌↔◌, ℕ}
+use Rattle.hashed_layout.specs.KeyBytes.{BeginsWithKey}
+use Rattle.hashed_layout.specs.KeyTables.{start_of}
+use Rattle.hashed_layout.specs.declared.complex.Entry.{Entry}
+use Rattle.hashed_layout.proofs.KeyTableLemmas.{begins-within, bytes-from, entry-read, told-by}
+use Rattle.hashed_layout.proofs.complex.tells_key.Goals as goal
+
+pub returns-then-start-bytes : goal.returns-then-start-bytes
+returns-then-start-bytes c =
+    let entries = c.args.entries.now in
+    let bytes = c.args.bytes.now in
+    let h = c.in-Some.ensures.lookup in
+    let here = entry-read entries entries (c.args.number - 1) (c.args.number - 1) c.in-Some.entry.now refl refl h.3.0 h.1 in (
+      λ f. absurd (cc (f)),
+      λ tells. absurd (
+          let same : tells.0 ≡ c.in-Some.entry.now = cc (tells.1, here) in
+          let start : start_of tells.0 ≡ start_of c.in-Some.entry.now = ap start_of same in
+          let inside = begins-within bytes (start_of tells.0) c.args.key.now tells.2 in
+          omega (arith, start, inside, c.start_of-start.ensures, c.if-start-bytes.true)),
+    )
+
+pub returns : goal.returns
+returns c =
+    let entries = c.args.entries.now in
+    let bytes = c.args.bytes.now in
+    let entry = c.in-Some.entry.now in
+    let h = c.in-Some.ensures.lookup in
+    let here = entry-read entries entries (c.args.number - 1) (c.args.number - 1) entry refl refl h.3.0 h.1 in
+    let whole = bytes-from bytes c.start_of-start.result ∙ ap (λ n. drop n bytes) c.start_of-start.ensures in
+    told-by entries bytes c.args.key.now c.args.number entry c.begins_with_key.result here
+    (subst (λ (l : List ℕ). IsTrue c.begins_with_key.result ↔ BeginsWithKey l c.args.key.now) whole c.begins_with_key.ensures)

@@ -1,0 +1,7 @@
+-- A prefix that is stripped is a front.
+use Rattle.std.proofs.lemmas.Bool.Decides.{Decides-eqb}
+use Rattle.std.proofs.lemmas.Slice.Eq.{strip_prefix_is}
+use Rattle.hashed_layout.proofs.key_bytes.behind.Goals as goal
+
+pub returns : goal.returns
+returns c = strip_prefix_is Decides-eqb c.args.bytes.now c.args.piece.now c.strip_prefix.result c.strip_prefix.ensures.cases

@@ -1,0 +1,31 @@
+-- What the table of a list of key lists keeps.
+use Rattle.std.specs.Prelude.{◌≡◌, ◌-◌, ◌+◌, ◌*◌, ◌/◌, ◌^◌, ◌==◌, ◌<◌, ◌≤◌, ℕ, List, Option, Some, None, drop, length, slice_get, slice_index, if◌then◌else◌}
+use Rattle.dict_value.specs.FindByKey.{HasKeyAt, IsLeastPlace}
+use Rattle.dict_value.specs.declared.value.Value.{Value}
+use Rattle.hashed_layout.specs.KeyBytes.{BeginsWithKey}
+use Rattle.hashed_layout.specs.KeyHash.{hash_of}
+use Rattle.hashed_layout.specs.Probing.{IsMet, part_of}
+use Rattle.hashed_layout.specs.declared.complex.Entry.{Entry}
+
+-- where the probes of a key begin
+unfoldable pub key_home : ℕ → List Value → ℕ
+key_home size key = part_of size (hash_of key / 2 ^ 32)
+
+-- where the bytes of an entry's key begin
+abbrev pub start_of : Entry → ℕ
+start_of entry = entry.high * 2 ^ 32 + entry.low
+
+-- the key that a cell holds: 0 is free, and every other number one more than a key's
+abbrev pub key_held : List (List Value) → List ℕ → ℕ → Option (List Value)
+key_held distinct cells i = if slice_index cells i == 0 then None else slice_get distinct (slice_index cells i - 1)
+
+-- The distinct keys, each with its bytes and its least place; each cell's number is one of them, and each key is met
+-- by its probes.
+pub record IsKeyTableOf (keys : List (List Value)) (bytes : List ℕ) (entries : List Entry) (cells : List ℕ) : Type 0 where
+  pub distinct : List (List Value)
+  pub count : length entries ≡ length distinct
+  pub stored : (n : ℕ) (key : List Value) (entry : Entry) → slice_get distinct n ≡ Some key → slice_get entries n ≡ Some entry
+      → BeginsWithKey (drop (start_of entry) bytes) key × IsLeastPlace keys key entry.place
+  pub numbered : (i : ℕ) → i < length cells → slice_index cells i ≤ length distinct
+  pub met : (place : ℕ) (key : List Value) → HasKeyAt keys key place
+      → IsMet (length cells) (key_home (length cells) key) (key_held distinct cells) key
