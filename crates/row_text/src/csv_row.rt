@@ -154,7 +154,8 @@ pub fn write_csv_row(alloc: Global, fields: &[Field], out: &mut Bytes) -> Result
     out.extend(text.as_slice())
 }
 
-/// The text of a row. No other error than want of memory comes over bytes in memory.
+/// The text of a row. Each error is taken as want of memory: a `Vec` refuses a write for nothing else, and one record
+/// differs from no other in length; but the contracts of `csv` tie no error of a write to its cause.
 fn row_bytes(alloc: Global, fields: &[Field]) -> Result<Vec<u8>, NoMemory>
     ensures { IfOk result (λ text. text.items ≡ csv_text fields.now) }
 {

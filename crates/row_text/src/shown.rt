@@ -41,8 +41,8 @@ pub fn fields_of(alloc: Global, texts: &[Option<&[u8]>]) -> Result<Fields, NoMem
     Ok(fields)
 }
 
-/// The lengths of long texts, of which the greatest is 16 MiB.
-pub const LONG_TEXTS: [usize; 3] = [1_001, 65_537, 16_777_216];
+/// How many bytes each field of a large row has, and how many fields it has. The longest text has 16 MiB.
+pub const LARGE_ROWS: [(usize, usize); 4] = [(1_001, 2), (65_537, 2), (16_777_216, 2), (1, 65_537)];
 
 /// A text of so many times this byte.
 pub fn long_text(alloc: Global, byte: u8, count: usize) -> Result<Bytes, NoMemory> {
@@ -52,7 +52,11 @@ pub fn long_text(alloc: Global, byte: u8, count: usize) -> Result<Bytes, NoMemor
     }
 }
 
-/// The row of this text twice.
-pub fn twice(alloc: Global, text: &[u8]) -> Result<Fields, NoMemory> {
-    fields_of(alloc, &[Some(text), Some(text)])
+/// The row of this text so many times.
+pub fn row_of(alloc: Global, text: &[u8], fields: usize) -> Result<Fields, NoMemory> {
+    let mut row = ListOf::new(alloc);
+    for _ in 0..fields {
+        row.push(Field::Text(Bytes::copy_of(alloc, text)?))?;
+    }
+    Ok(row)
 }

@@ -1,4 +1,4 @@
-use crate::shown::{LONG_TEXTS, fields_of, long_text, show, twice};
+use crate::shown::{LARGE_ROWS, fields_of, long_text, row_of, show};
 use crate::{read_csv_row, write_csv_row};
 use dict_value::Bytes;
 use std::test::Fail;
@@ -56,11 +56,11 @@ fn written_csv_rows(rt: HostRuntime) -> Result<(), Fail> {
 }
 
 #[test]
-fn long_csv_rows(rt: HostRuntime) -> Result<(), Fail> {
-    for count in LONG_TEXTS {
+fn large_csv_rows(rt: HostRuntime) -> Result<(), Fail> {
+    for (bytes, count) in LARGE_ROWS {
         for byte in [b'x', b',', b'"'] {
-            let text = long_text(rt.alloc(), byte, count)?;
-            let fields = twice(rt.alloc(), text.as_slice())?;
+            let text = long_text(rt.alloc(), byte, bytes)?;
+            let fields = row_of(rt.alloc(), text.as_slice(), count)?;
             assert!(rt; !fields.is_empty());
             let mut written = Bytes::new(rt.alloc());
             write_csv_row(rt.alloc(), fields.as_slice(), &mut written)?;

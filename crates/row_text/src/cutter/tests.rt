@@ -84,3 +84,19 @@ fn starts(rt: HostRuntime) {
     assert_eq!(rt; cutter.feed(b"\"\nb"), Cut::Row(2));
     assert!(rt; cutter.at_start());
 }
+
+#[test]
+fn a_million_rows(rt: HostRuntime) -> Result<(), Fail> {
+    let mut text = Bytes::new(rt.alloc());
+    for _ in 0..1_000_000 {
+        text.extend(b"a,b\n")?;
+    }
+    text.push(b'c')?;
+    let pieces = pieces_of(rt.alloc(), text.as_slice(), 65_536)?;
+    for rule in [CutRule::Plain, CutRule::Tab, CutRule::Csv] {
+        let found = rows_of_pieces(rt.alloc(), rule, pieces.as_slice())?;
+        assert_eq!(rt; found.rows.len(), 1_000_000);
+        assert_eq!(rt; found.rest.as_slice(), b"c".as_slice());
+    }
+    Ok(())
+}

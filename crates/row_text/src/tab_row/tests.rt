@@ -1,4 +1,4 @@
-use crate::shown::{LONG_TEXTS, fields_of, long_text, show, twice};
+use crate::shown::{LARGE_ROWS, fields_of, long_text, row_of, show};
 use crate::{read_fields, write_row, write_text};
 use dict_value::Bytes;
 use std::test::Fail;
@@ -61,15 +61,18 @@ fn written_tab_rows(rt: HostRuntime) -> Result<(), Fail> {
 }
 
 #[test]
-fn long_tab_rows(rt: HostRuntime) -> Result<(), Fail> {
-    for count in LONG_TEXTS {
+fn large_tab_rows(rt: HostRuntime) -> Result<(), Fail> {
+    for (bytes, count) in LARGE_ROWS {
         for byte in [b'x', b'\t'] {
-            let text = long_text(rt.alloc(), byte, count)?;
-            let fields = twice(rt.alloc(), text.as_slice())?;
+            let text = long_text(rt.alloc(), byte, bytes)?;
+            let fields = row_of(rt.alloc(), text.as_slice(), count)?;
             assert!(rt; !fields.is_empty());
             let mut written = Bytes::new(rt.alloc());
             write_row(fields.as_slice(), &mut written)?;
+            let mut field = Bytes::new(rt.alloc());
+            write_text(text.as_slice(), &mut field)?;
             let line = written.as_slice();
+            assert!(rt; line.starts_with(field.as_slice()));
             assert!(rt; 0 < line.len() && line.len() <= u32::MAX as usize);
             let mut wanted = Bytes::new(rt.alloc());
             show(Ok(fields), &mut wanted)?;
