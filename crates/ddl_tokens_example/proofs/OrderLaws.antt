@@ -44,10 +44,13 @@ clause_headed kind.Note a own h =
     let p = headed (is_keyword (codes "NOTE")) (λ _. tt {0}) (λ _. Made clause.Note (IsBytes is_string)) a own h in
     (p.0, p.1, p.2, cond-false (is_keyword (codes "PRICE") p.0) _ _ (keywords_apart (codes "NOTE") (codes "PRICE") p.0 refl p.3) ∙ cond-true (is_keyword (codes "NOTE") p.0) _ _ p.3)
 clause_headed kind.Due a own h =
-    let p = headed (is_keyword (codes "DUE")) (λ _. tt {0}) (λ _. Made clause.Due (IsBytes is_number)) a own h in
-    (p.0, p.1, p.2,
-    cond-false (is_keyword (codes "PRICE") p.0) _ _ (keywords_apart (codes "DUE") (codes "PRICE") p.0 refl p.3)
-    ∙ cond-false (is_keyword (codes "NOTE") p.0) _ _ (keywords_apart (codes "DUE") (codes "NOTE") p.0 refl p.3) ∙ cond-true (is_keyword (codes "DUE") p.0) _ _ p.3)
+    let p = headed (is_keyword (codes "DUE")) (λ _. tt {0}) (λ _. Made clause.Due (IsBytes is_number)) a own h in (
+      p.0,
+      p.1,
+      p.2,
+      cond-false (is_keyword (codes "PRICE") p.0) _ _ (keywords_apart (codes "DUE") (codes "PRICE") p.0 refl p.3)
+          ∙ cond-false (is_keyword (codes "NOTE") p.0) _ _ (keywords_apart (codes "DUE") (codes "NOTE") p.0 refl p.3) ∙ cond-true (is_keyword (codes "DUE") p.0) _ _ p.3,
+    )
 
 clause_numbered : (k : ClauseKind) (a : Clause) (own : List Token) → IsClause k a own → number a ≡ kind_number k
 clause_numbered kind.Price a own h = ap number h.behind.is
