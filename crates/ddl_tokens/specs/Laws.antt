@@ -45,7 +45,8 @@ Starts Own Stops tokens a = (rest : List Token) × Begins Own Stops tokens a res
 
 -- The fault has the least place: the tokens before it can go on to an a, and no tokens that are the same up to it,
 -- itself included, begin with those of an a.
-pub record IsLeast {A : Type 0} (Own : Grammar A) (Stops : Stopping A) (tokens : List Token) (e : SyntaxFault) : Type 0 where
+pub record IsLeast {A : Type 0} (Own : Grammar A) (Stops : Stopping A) (tokens : List Token) (e : SyntaxFault)
+    : Type 0 where
   pub before : List Token
   pub rest : List Token
   pub parts : tokens ≡ before ++ rest

@@ -56,7 +56,8 @@ pub data IsToken : TokenKind → List ℕ → List ℕ → List ℕ → Type 0 w
   whole : {own rest : List ℕ} (sign digits : List ℕ) → own ≡ sign ++ digits → IsNumberSign sign → IsDigits digits
       → begins_with is_digit rest ≡ false → begins_with_fraction rest ≡ false → IsToken Number own own rest
   fraction : {own rest : List ℕ} (sign digits places : List ℕ) → own ≡ sign ++ (digits ++ 46 ∷ places)
-      → IsNumberSign sign → IsDigits digits → IsDigits places → begins_with is_digit rest ≡ false → IsToken Number own own rest
+      → IsNumberSign sign → IsDigits digits → IsDigits places → begins_with is_digit rest ≡ false
+      → IsToken Number own own rest
   sign : {b : ℕ} {rest : List ℕ} → is_sign b ≡ true → IsToken Sign (b ∷ []) (b ∷ []) rest
   quoted : {q : ℕ} {kind : TokenKind} {inside bytes own rest : List ℕ} → quoted_kind q ≡ Some kind
       → own ≡ q ∷ (inside ++ q ∷ []) → StandsFor q inside bytes → begins_with (λ b. b == q) rest ≡ false

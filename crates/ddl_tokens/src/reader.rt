@@ -1,5 +1,5 @@
 // A text, token by token.
-ghost use Rattle.std.specs.Prelude.{◌≡◌, ◌<◌, length, drop, List, IfOk, OnOk, IsTrue};
+ghost use Rattle.std.specs.Prelude.{◌≡◌, ◌≢◌, ◌<◌, Err, length, drop, List, IfOk, OnOk, IsTrue};
 ghost use Rattle.ddl_tokens.specs.declared.fault.ReadFault.TheVariants as fault;
 ghost use Rattle.ddl_tokens.specs.declared.fault.SyntaxFault.TheVariants.{Unexpected};
 ghost use Rattle.ddl_tokens.specs.Letters.{same_letters};
@@ -152,6 +152,7 @@ impl<'a> Reader<'a> {
     #[tactic(auto, using(crate::proofs::Going::keyword_goes_on), unfolding(crate::specs::Reading::keyword_at))]
     pub fn keyword(&mut self, word: &[u8]) -> Result<(), ReadFault>
         ensures value { Gives (λ _. tt) result self.new (keyword_at word.now self.old) }
+        ensures takes_none { result ≢ Err fault.NoMemory }
         ensures shorter { OnOk result (length self.new < length self.old) }
     {
         if !self.sees_keyword(word) {
@@ -164,6 +165,7 @@ impl<'a> Reader<'a> {
     #[tactic(auto, using(crate::proofs::Going::sign_goes_on), unfolding(crate::specs::Reading::sign_at))]
     pub fn sign(&mut self, sign: u8) -> Result<(), ReadFault>
         ensures value { Gives (λ _. tt) result self.new (sign_at sign self.old) }
+        ensures takes_none { result ≢ Err fault.NoMemory }
         ensures shorter { OnOk result (length self.new < length self.old) }
     {
         if !self.sees_sign(sign) {
@@ -204,6 +206,7 @@ impl<'a> Reader<'a> {
     #[tactic(auto, unfolding(crate::specs::Reading::bytes_at, crate::specs::Reading::bytes_ahead, crate::specs::Reading::passes))]
     pub fn number(&mut self) -> Result<&'a [u8], ReadFault>
         ensures value { Gives (λ text. text.now) result self.new (bytes_at is_number self.old) }
+        ensures takes_none { result ≢ Err fault.NoMemory }
         ensures shorter { OnOk result (length self.new < length self.old) }
     {
         let TokenKind::Number = self.token.kind else {

@@ -1,7 +1,6 @@
 -- The kind of the clause in hand, as the reader tests it.
-use Rattle.std.proofs.Common.{◌≡◌, Bool, true, false, cond, List, [], ◌∷◌, Option, Some, None, Result, Ok, refl, ap, ◌∙◌}
+use Rattle.std.proofs.Common.{◌≡◌, Bool, true, false, cond, List, [], ◌∷◌, Some, None, Ok, refl, ap}
 use Rattle.std.specs.Prelude.{codes}
-use Rattle.ddl_tokens.specs.declared.fault.SyntaxFault.{SyntaxFault}
 use Rattle.ddl_tokens.specs.Tokens.{Token}
 use Rattle.ddl_tokens.specs.Reading.{◌>>=◌, passes, is_keyword}
 use Rattle.ddl_tokens.specs.Lists.{Kind, kind_at, next_once, once_of}

@@ -1,5 +1,5 @@
 -- An order is read by its grammar: each part names the law that it is put together by.
-use Rattle.std.proofs.Common.{◌≡◌, ℕ, Bool, true, false, cond, List, [], ◌∷◌, ◌++◌, Option, Some, None, Result, Ok, Err, refl, sym, ap, subst, ◌∙◌}
+use Rattle.std.proofs.Common.{◌≡◌, ℕ, Bool, true, false, cond, List, [], ◌∷◌, ◌++◌, Option, Some, None, Ok, Err, refl, sym, ap, subst, ◌∙◌}
 use Rattle.std.specs.Prelude.{codes}
 use Rattle.std.proofs.lemmas.Bool.{cond-true, cond-false}
 use Rattle.ddl_tokens.specs.declared.token.TokenKind.TheVariants.{Word, Number, String}
@@ -7,8 +7,8 @@ use Rattle.ddl_tokens.specs.declared.fault.SyntaxFault.{SyntaxFault}
 use Rattle.ddl_tokens.specs.Letters.{same_letters}
 use Rattle.ddl_tokens.specs.Tokens.{Token}
 use Rattle.ddl_tokens.specs.Reading.{is_keyword, is_the_sign, is_name, is_number, is_string}
-use Rattle.ddl_tokens.specs.Laws.{first, place_of, Anyhow, Lawful, IsBytes, IsKeyword, IsSign, Then, Made, Optional, OptionalStops}
-use Rattle.ddl_tokens.specs.Lists.{BeginsNone, Kind, LastStops, Separated, repeat}
+use Rattle.ddl_tokens.specs.Laws.{first, place_of, Anyhow, Lawful, IsBytes, IsSign, Then, Made, Optional, OptionalStops}
+use Rattle.ddl_tokens.specs.Lists.{BeginsNone, Kind, LastStops, repeat}
 use Rattle.ddl_tokens.proofs.Laws.{bytes, first_passes, headed, keyword, keywords_apart, made, optional, passes_first, sign, sign_no_keyword, signs_apart, then, then_after}
 use Rattle.ddl_tokens.proofs.Lists.{all_stop, separated}
 use Rattle.ddl_tokens.proofs.Once.{in_any_order}
@@ -18,7 +18,7 @@ use Rattle.ddl_tokens_example.specs.declared.order.Clause.TheVariants as clause
 use Rattle.ddl_tokens_example.specs.declared.order.ClauseKind.{ClauseKind}
 use Rattle.ddl_tokens_example.specs.declared.order.ClauseKind.TheVariants as kind
 use Rattle.ddl_tokens_example.specs.Grammar.{item, order, IsTimes, IsItem, ItemStops, IsClause, kind_of, kind_number, number, AreClauses, IsOrder, OrderStops}
-use Rattle.ddl_tokens_example.specs.Reading.{times_at, item_at, clause_at, next_clause, clauses_at, order_at}
+use Rattle.ddl_tokens_example.specs.Reading.{times_at, item_at, clause_at, next_clause, order_at}
 
 times_law : {Before : Option Token → Type 0} → Lawful Before times_at (Optional IsTimes) (OptionalStops (is_keyword (codes "TIMES")) Anyhow)
 unfolding times_at
@@ -44,10 +44,13 @@ clause_headed kind.Note a own h =
     let p = headed (is_keyword (codes "NOTE")) (λ _. tt {0}) (λ _. Made clause.Note (IsBytes is_string)) a own h in
     (p.0, p.1, p.2, cond-false (is_keyword (codes "PRICE") p.0) _ _ (keywords_apart (codes "NOTE") (codes "PRICE") p.0 refl p.3) ∙ cond-true (is_keyword (codes "NOTE") p.0) _ _ p.3)
 clause_headed kind.Due a own h =
-    let p = headed (is_keyword (codes "DUE")) (λ _. tt {0}) (λ _. Made clause.Due (IsBytes is_number)) a own h in
-    (p.0, p.1, p.2,
-    cond-false (is_keyword (codes "PRICE") p.0) _ _ (keywords_apart (codes "DUE") (codes "PRICE") p.0 refl p.3)
-    ∙ cond-false (is_keyword (codes "NOTE") p.0) _ _ (keywords_apart (codes "DUE") (codes "NOTE") p.0 refl p.3) ∙ cond-true (is_keyword (codes "DUE") p.0) _ _ p.3)
+    let p = headed (is_keyword (codes "DUE")) (λ _. tt {0}) (λ _. Made clause.Due (IsBytes is_number)) a own h in (
+      p.0,
+      p.1,
+      p.2,
+      cond-false (is_keyword (codes "PRICE") p.0) _ _ (keywords_apart (codes "DUE") (codes "PRICE") p.0 refl p.3)
+          ∙ cond-false (is_keyword (codes "NOTE") p.0) _ _ (keywords_apart (codes "DUE") (codes "NOTE") p.0 refl p.3) ∙ cond-true (is_keyword (codes "DUE") p.0) _ _ p.3,
+    )
 
 clause_numbered : (k : ClauseKind) (a : Clause) (own : List Token) → IsClause k a own → number a ≡ kind_number k
 clause_numbered kind.Price a own h = ap number h.behind.is

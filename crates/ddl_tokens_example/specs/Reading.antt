@@ -1,6 +1,5 @@
 -- How an order is read: each part as the laws put it together.
-use Rattle.std.specs.Prelude.{ℕ, List, [], ◌∷◌, codes, Option, Some, None, Result, Ok, Err, if◌then◌else◌}
-use Rattle.ddl_tokens.specs.declared.fault.SyntaxFault.{SyntaxFault}
+use Rattle.std.specs.Prelude.{ℕ, List, [], codes, Option, Some, None, Ok, if◌then◌else◌}
 use Rattle.ddl_tokens.specs.Tokens.{Token}
 use Rattle.ddl_tokens.specs.Reading.{◌>>=◌, Read, passes, is_keyword, is_name, is_number, is_string, keyword_at, sign_at, bytes_at}
 use Rattle.ddl_tokens.specs.Lists.{Step, next_once, repeat, separated_at}
@@ -48,9 +47,6 @@ kind_ahead ts =
 
 unfoldable pub next_clause : Step (List Clause)
 next_clause before ts = next_once kind_of clause_at kind_number number wanted before ts
-
-unfoldable pub clauses_at : List Token → Read (List Clause)
-clauses_at ts = repeat next_clause [] ts
 
 unfoldable pub order_at : List Token → Read Order
 order_at ts = do

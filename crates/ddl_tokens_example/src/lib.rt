@@ -17,9 +17,8 @@ ghost use Rattle.ddl_tokens_example.specs.Grammar.{IsOrder, OrderStops};
 mod order;
 mod reading;
 
-pub use order::{Clause, Item, Order};
-
 use ddl_tokens::{ReadFault, Reader};
+pub use order::{Clause, Item, Order};
 use std::alloc::Global;
 
 /// The order that a text begins with.
@@ -39,7 +38,6 @@ pub fn first_order(alloc: Global, text: &[u8]) -> Result<Order, ReadFault>
     let mut reader = Reader::new(text);
     reading::order(alloc, &mut reader)
 }
-
 
 #[cfg(test)]
 mod tests;

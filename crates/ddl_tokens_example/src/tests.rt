@@ -59,7 +59,10 @@ fn show(alloc: Global, text: &[u8], out: &mut Bytes) -> Result<(), NoMemory> {
 fn orders(rt: HostRuntime) -> Result<(), Fail> {
     let cases: [(&[u8], &[u8]); 16] = [
         (b"ORDER a(b)PRICE 1", b"a b P1"),
-        (b"order `a b`(c TIMES 2, d) note 'e' Price 3;", b"a b c*2 d Ne P3"),
+        (
+            b"order `a b`(c TIMES 2, d) note 'e' Price 3;",
+            b"a b c*2 d Ne P3",
+        ),
         (b"ORDER a(b) DUE 1 PRICE 2 NOTE ''", b"a b D1 P2 N"),
         (b"ORDER a(times TIMES 2) PRICE 1", b"a times*2 P1"),
         (b"ORDER a(b) PRICE 1 ORDER", b"a b P1"),

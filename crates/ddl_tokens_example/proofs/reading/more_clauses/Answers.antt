@@ -1,7 +1,6 @@
 use Rattle.std.proofs.lemmas.Result.{err_from_is_err_and}
-use Rattle.ddl_tokens.specs.Lists.{next_item}
 use Rattle.ddl_tokens.proofs.Loops.{stopped, fails}
-use Rattle.ddl_tokens_example.specs.Reading.{item_at, next_clause}
+use Rattle.ddl_tokens_example.specs.Reading.{next_clause}
 use Rattle.ddl_tokens_example.proofs.reading.more_clauses.Goals as goal
 
 pub returns-in_err-next_clause-clause-value : goal.returns-in_err-next_clause-clause-value

@@ -1,6 +1,6 @@
 use Rattle.std.proofs.Common.{◌≤◌, length}
 use Rattle.ddl_tokens.specs.Lists.{SoFar, next_item}
-use Rattle.ddl_tokens_example.specs.Reading.{item_at, next_clause}
+use Rattle.ddl_tokens_example.specs.Reading.{item_at}
 use Rattle.ddl_tokens_example.proofs.reading.more_items.Given as goal
 
 abbrev pub invariant-loop-items : goal.invariant-loop-items
