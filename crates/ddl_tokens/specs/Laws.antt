@@ -1,5 +1,6 @@
 -- What makes a reading the reading of a grammar.
-use Rattle.std.specs.Prelude.{◌≡◌, ◌⊎◌, ℕ, Bool, false, if◌then◌else◌, List, [], ◌∷◌, ◌++◌, Option, Some, None, Result, Ok, Err}
+use Rattle.std.specs.Prelude.{◌≡◌, ◌⊎◌, ℕ, Bool, false, if◌then◌else◌, List, [], ◌∷◌, ◌++◌, Option, Some, None, Result}
+use Rattle.std.specs.Prelude.{Ok, Err}
 use Rattle.ddl_tokens.specs.declared.token.TokenKind.{TokenKind}
 use Rattle.ddl_tokens.specs.declared.fault.SyntaxFault.{SyntaxFault}
 use Rattle.ddl_tokens.specs.declared.fault.SyntaxFault.TheVariants.{Unexpected, UnknownSetting, Twice, Unsupported}

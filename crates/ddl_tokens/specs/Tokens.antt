@@ -1,10 +1,12 @@
 -- Which tokens a text has.
-use Rattle.std.specs.Prelude.{◌≡◌, ◌≢◌, ◌⊎◌, ℕ, ◌+◌, Bool, true, false, ◌||◌, ◌&&◌, ◌==◌, List, [], ◌∷◌, ◌++◌, length, codes, Some}
+use Rattle.std.specs.Prelude.{◌≡◌, ◌≢◌, ◌⊎◌, ℕ, ◌+◌, Bool, true, false, ◌||◌, ◌&&◌, ◌==◌, List, [], ◌∷◌, ◌++◌, length}
+use Rattle.std.specs.Prelude.{codes, Some}
 use Rattle.std.specs.List.{AllByRecursion}
 use Rattle.dict_value.specs.Split.{Lacks}
 use Rattle.ddl_tokens.specs.declared.token.TokenKind.{TokenKind}
 use Rattle.ddl_tokens.specs.declared.token.TokenKind.TheVariants.{Word, Number, Sign, Broken, End}
-use Rattle.ddl_tokens.specs.Letters.{is_blank, is_digit, is_word_start, is_word_byte, is_sign, is_number_sign, quoted_kind, is_quote, begins_with}
+use Rattle.ddl_tokens.specs.Letters.{is_blank, is_digit, is_word_start, is_word_byte, is_sign, is_number_sign}
+use Rattle.ddl_tokens.specs.Letters.{quoted_kind, is_quote, begins_with}
 use Rattle.ddl_tokens.specs.Quoted.{StandsFor, HasEnd, LacksDigits}
 
 -- A token: the place of its first byte, counted from the text's start, and the bytes that it stands for.

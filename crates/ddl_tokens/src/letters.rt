@@ -1,6 +1,7 @@
 // The bytes of a definition text, by kind.
 ghost use Rattle.std.specs.Prelude.{◌≡◌};
-ghost use Rattle.ddl_tokens.specs.Letters.{is_blank, is_word_start, is_word_byte, is_digit, is_sign, is_number_sign, quoted_kind, folded};
+ghost use Rattle.ddl_tokens.specs.Letters.{is_blank, is_word_start, is_word_byte, is_digit, is_sign, is_number_sign};
+ghost use Rattle.ddl_tokens.specs.Letters.{quoted_kind, folded};
 
 use crate::token::TokenKind;
 

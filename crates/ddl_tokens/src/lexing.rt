@@ -3,7 +3,9 @@ ghost use Rattle.std.specs.Prelude.{◌≡◌, ◌≤◌, ◌<◌, ◌-◌, ◌�
 ghost use Rattle.std.specs.List.{prefix_len};
 ghost use Rattle.ddl_tokens.specs.Letters.{is_digit, is_word_byte};
 ghost use Rattle.ddl_tokens.specs.declared.token.TokenKind.TheVariants.{Broken};
-ghost use Rattle.ddl_tokens.specs.steps.Lexer.{digits_len, fraction_len, number_len, token_at, next_token, in_quotes, unquoted, front, bytes_in, ending, plain, token, token_of, Found, IsBare, IsInQuotes};
+ghost use Rattle.ddl_tokens.specs.steps.Lexer.{digits_len, fraction_len, number_len, token_at, next_token, in_quotes};
+ghost use Rattle.ddl_tokens.specs.steps.Lexer.{unquoted, front, bytes_in, ending, plain, token, token_of, Found};
+ghost use Rattle.ddl_tokens.specs.steps.Lexer.{IsBare, IsInQuotes};
 
 use crate::gaps::after_gap;
 use crate::letters::{is_digit, is_number_sign, is_sign, is_word_byte, is_word_start, quoted_kind};

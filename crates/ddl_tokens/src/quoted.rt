@@ -2,7 +2,8 @@
 ghost use Rattle.std.specs.Prelude.{◌≡◌, ◌<◌, ◌≤◌, ◌+◌, ◌∷◌, ℕ, length, IfOk, IfSome};
 ghost use Rattle.ddl_tokens.specs.Letters.{same_letters};
 ghost use Rattle.ddl_tokens.specs.Quoted.{unescaped, hex_digit};
-ghost use Rattle.ddl_tokens.specs.steps.Lexer.{bytes_in, ending, spoiled, closes, plain, escaped, EndingIs, HexByteIs, ScanWithin, StepIs, StepWithin};
+ghost use Rattle.ddl_tokens.specs.steps.Lexer.{bytes_in, ending, spoiled, closes, plain, escaped, EndingIs, HexByteIs};
+ghost use Rattle.ddl_tokens.specs.steps.Lexer.{ScanWithin, StepIs, StepWithin};
 
 use crate::letters::{LetterCase, folded};
 use dict_value::{Bytes, NoMemory};

@@ -3,7 +3,9 @@ ghost use Rattle.std.specs.Prelude.{◌≡◌, ◌≢◌, ◌<◌, Err, length, 
 ghost use Rattle.ddl_tokens.specs.declared.fault.ReadFault.TheVariants as fault;
 ghost use Rattle.ddl_tokens.specs.declared.fault.SyntaxFault.TheVariants.{Unexpected};
 ghost use Rattle.ddl_tokens.specs.Letters.{same_letters};
-ghost use Rattle.ddl_tokens.specs.Reading.{Gives, bytes_ahead, bytes_at, goes_on, is_name, is_number, is_string, is_keyword, is_the_sign, keyword_at, kind_ahead, of_kind, passes, place_ahead, sign_at};
+ghost use Rattle.ddl_tokens.specs.Reading.{Gives, bytes_ahead, bytes_at, goes_on, is_name, is_number, is_string};
+ghost use Rattle.ddl_tokens.specs.Reading.{is_keyword, is_the_sign, keyword_at, kind_ahead, of_kind, passes};
+ghost use Rattle.ddl_tokens.specs.Reading.{place_ahead, sign_at};
 ghost use Rattle.ddl_tokens.specs.Tokens.{Token, AreTokens};
 
 use crate::fault::{ReadFault, SyntaxFault};

@@ -1,7 +1,8 @@
 -- How an order is read: each part as the laws put it together.
 use Rattle.std.specs.Prelude.{ℕ, List, [], codes, Option, Some, None, Ok, if◌then◌else◌}
 use Rattle.ddl_tokens.specs.Tokens.{Token}
-use Rattle.ddl_tokens.specs.Reading.{◌>>=◌, Read, passes, is_keyword, is_name, is_number, is_string, keyword_at, sign_at, bytes_at}
+use Rattle.ddl_tokens.specs.Reading.{◌>>=◌, Read, passes, is_keyword, is_name, is_number, is_string, keyword_at}
+use Rattle.ddl_tokens.specs.Reading.{sign_at, bytes_at}
 use Rattle.ddl_tokens.specs.Lists.{Step, next_once, repeat, separated_at}
 use Rattle.ddl_tokens_example.specs.declared.order.Item.{Item}
 use Rattle.ddl_tokens_example.specs.declared.order.Clause.{Clause}

@@ -1,4 +1,5 @@
--- The columns of a row as a child prints it: the keys in the order of PRIMARY KEY, the ends of the range, then the others.
+-- The columns of a row as a child prints it: the keys in the order of PRIMARY KEY, the ends of the range, then the
+-- others.
 use Rattle.std.specs.Prelude.{ℕ, List, [], ◌∷◌, ◌++◌}
 use Rattle.std.specs.Prelude.{length, slice_get, if◌then◌else◌}
 use Rattle.std.specs.List.{filter, filter_map, range_with_len}

@@ -112,7 +112,8 @@ abbrev pub IsParentBefore : Definition → ℕ → Type 0
 IsParentBefore d place =
     (k : ℕ) × (column : Column) × (k < place) × (slice_get d.columns k ≡ Some column) × IsTrue column.hierarchical
 
--- the column at this place names a parent, and is no attribute, has another type than UInt64, or isn't the first that does
+-- the column at this place names a parent, and is no attribute, has another type than UInt64, or isn't the first that
+-- does
 abbrev pub IsBadParent : Definition → ℕ → Type 0
 IsBadParent d place =
     (column : Column) × (slice_get d.columns place ≡ Some column) × IsTrue column.hierarchical

@@ -49,8 +49,10 @@ impl Rules for Parents<'_> {
 /// Whether a column of this type is an attribute of type UInt64, and the first that names a parent.
 fn may_be_parent(d: &Definition, place: usize, base: ColType) -> bool
     requires { place < length d.now.columns }
-    ensures can { IsTrue result → (is_attribute d.now place ≡ true) × (base ≡ UInt64) × (IsParentBefore d.now place → ⊥) }
-    ensures cannot { (result ≡ false) → (is_attribute d.now place ≡ false) ⊎ ((base ≢ UInt64) ⊎ IsParentBefore d.now place) }
+    ensures can { IsTrue result
+        → (is_attribute d.now place ≡ true) × (base ≡ UInt64) × (IsParentBefore d.now place → ⊥) }
+    ensures cannot { (result ≡ false)
+        → (is_attribute d.now place ≡ false) ⊎ ((base ≢ UInt64) ⊎ IsParentBefore d.now place) }
 {
     base == ColType::UInt64 && is_attribute(d, place) && !is_parent_before(d, place)
 }

@@ -164,7 +164,8 @@ struct RepeatedArguments<'a> {
 impl Rules for RepeatedArguments<'_> {
     ghost count_of = { λ rules. length rules.f.now.args };
 
-    ghost rule_at = { λ rules place. Where (fault.DuplicateName (place + 1)) (IsNamedBefore (argument_names rules.f.now) place) };
+    ghost rule_at = { λ rules place.
+        Where (fault.DuplicateName (place + 1)) (IsNamedBefore (argument_names rules.f.now) place) };
 
     fn count(&self) -> usize {
         self.f.args.len()

@@ -6,7 +6,8 @@ use crate::definition::{Column, Definition, RangeOf};
 
 /// The column at a place, where there is one.
 pub(crate) fn column_at(d: &Definition, place: usize) -> Option<&Column>
-    ensures { MatchOption result (slice_get d.now.columns place ≡ None) (λ column. slice_get d.now.columns place ≡ Some column.now) }
+    ensures { MatchOption result (slice_get d.now.columns place ≡ None)
+        (λ column. slice_get d.now.columns place ≡ Some column.now) }
 {
     d.columns.as_slice().get(place)
 }

@@ -1,5 +1,6 @@
 -- Addresses and prefixes: the ClickHouse documentation's IPv4 and IPv6, in this profile.
-use Rattle.std.specs.Prelude.{◌%◌, ◌<◌, ◌≤◌, ◌≡◌, ℕ, ◌-◌, ◌*◌, ◌/◌, ◌^◌, true, false, not, ◌||◌, ◌==◌, nat_le, if◌then◌else◌, List, length, drop, slice_index, Option, Some, None, Result, Ok}
+use Rattle.std.specs.Prelude.{◌%◌, ◌<◌, ◌≤◌, ◌≡◌, ℕ, ◌-◌, ◌*◌, ◌/◌, ◌^◌, true, false, not, ◌||◌, ◌==◌, nat_le}
+use Rattle.std.specs.Prelude.{if◌then◌else◌, List, length, drop, slice_index, Option, Some, None, Result, Ok}
 use Rattle.std.specs.Option.{option_map, option_or, option_and_then}
 use Rattle.std.specs.Int.{w32, w128, to_be_bytes, from_be_bytes}
 use Rattle.std.specs.Net.Addr.{octets_of, segments_of}

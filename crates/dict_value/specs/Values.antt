@@ -1,5 +1,6 @@
 -- What each type reads and writes: the values of the ClickHouse documentation's types, in this profile.
-use Rattle.std.specs.Prelude.{◌≡◌, ◌≢◌, ℕ, ◌^◌, ◌<◌, IsTrue, if◌then◌else◌, List, [], Result, Ok, Err, pos, decimal, unsigned_abs, min}
+use Rattle.std.specs.Prelude.{◌≡◌, ◌≢◌, ℕ, ◌^◌, ◌<◌, IsTrue, if◌then◌else◌, List, [], Result, Ok, Err, pos, decimal}
+use Rattle.std.specs.Prelude.{unsigned_abs, min}
 use Rattle.std.specs.Fmt.{signed_decimal}
 use Rattle.dict_value.specs.declared.value.ColType.{ColType}
 use Rattle.dict_value.specs.declared.value.ColType.TheVariants as type

@@ -1,6 +1,7 @@
 // Addresses and prefixes.
 ghost use Rattle.std.specs.Prelude.{◌≡◌, ◌↔◌, ◌≤◌, ◌-◌, ◌%◌, ◌^◌, ℕ, List, OnErr, IfOk, IfSome, Ok, Some};
-ghost use Rattle.dict_value.specs.Addresses.{IsAddress, IsV4, IsV6, IsPrefix, v4_in, v6_in, v4_of, v6_of, address_in, length_in, prefix_len_in, prefix_in, prefix_of, width_of, first_bits};
+ghost use Rattle.dict_value.specs.Addresses.{IsAddress, IsV4, IsV6, IsPrefix, v4_in, v6_in, v4_of, v6_of, address_in};
+ghost use Rattle.dict_value.specs.Addresses.{length_in, prefix_len_in, prefix_in, prefix_of, width_of, first_bits};
 ghost use Rattle.dict_value.specs.Numbers.{given};
 ghost use Rattle.dict_value.specs.declared.value.Address.{Address};
 ghost use Rattle.dict_value.specs.declared.value.BadValue.TheVariants.{BadAddress};

@@ -1,5 +1,6 @@
 // A list of bytes over a `Vec`, which contracts see as a list of numbers.
-ghost use Rattle.std.specs.Prelude.{◌≡◌, [], ◌∷◌, ◌++◌, ◌<◌, ◌≤◌, ◌+◌, ◌↔◌, take, drop, length, replicate, OnOk, OnErr, IfOk, IsOk, IsTrue};
+ghost use Rattle.std.specs.Prelude.{◌≡◌, [], ◌∷◌, ◌++◌, ◌<◌, ◌≤◌, ◌+◌, ◌↔◌, take, drop, length, replicate, OnOk, OnErr};
+ghost use Rattle.std.specs.Prelude.{IfOk, IsOk, IsTrue};
 
 use crate::fault::NoMemory;
 use std::alloc::Global;

@@ -1,10 +1,13 @@
 // Dates and seconds, which `jiff` checks and converts.
-ghost use Rattle.std.specs.Prelude.{◌≡◌, ◌+◌, ◌*◌, ◌^◌, ◌-◌, ◌<◌, ◌≤◌, ◌∷◌, length, take, drop, IsTrue, if◌then◌else◌, Some, None, IfOk, pos, ◌+ℤ◌, ◌≤ℤ◌};
+ghost use Rattle.std.specs.Prelude.{◌≡◌, ◌+◌, ◌*◌, ◌^◌, ◌-◌, ◌<◌, ◌≤◌, ◌∷◌, length, take, drop, IsTrue, if◌then◌else◌};
+ghost use Rattle.std.specs.Prelude.{Some, None, IfOk, pos, ◌+ℤ◌, ◌≤ℤ◌};
 ghost use Rattle.std.specs.Str.{all_ascii_digits};
 ghost use Rattle.std.specs.Str.Parse.{digits_value};
 ghost use Rattle.dict_value.specs.Letters.{space};
 ghost use Rattle.dict_value.specs.declared.dates.TheConstants.{DAY_SECONDS};
-ghost use Rattle.dict_value.specs.Dates.{civil, is_civil, has_date_form, day_in, day_of, date_of, has_clock_form, clock_in, plain_second_in, civil_second_in, second_of, from_zero_below, second_after, civil_of_day, date_text, two, clock_text, day_text, second_text};
+ghost use Rattle.dict_value.specs.Dates.{civil, is_civil, has_date_form, day_in, day_of, date_of, has_clock_form};
+ghost use Rattle.dict_value.specs.Dates.{clock_in, plain_second_in, civil_second_in, second_of, from_zero_below};
+ghost use Rattle.dict_value.specs.Dates.{second_after, civil_of_day, date_text, two, clock_text, day_text, second_text};
 ghost use Rattle.dict_value.specs.Values.{as_value, HasType};
 ghost use Rattle.dict_value.specs.declared.value.ColType.{ColType};
 ghost use Rattle.dict_value.specs.declared.value.Value.TheVariants.{Day, Second};

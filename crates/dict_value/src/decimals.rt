@@ -1,5 +1,6 @@
 // Decimals, read byte by byte, as the scaled whole number.
-ghost use Rattle.std.specs.Prelude.{◌≡◌, ◌+◌, ◌*◌, ◌^◌, ◌-◌, ◌<◌, ◌≤◌, ◌++◌, List, take, drop, length, min, not, ◌==◌, slice_index_or, IsTrue, IfOk, None, Some};
+ghost use Rattle.std.specs.Prelude.{◌≡◌, ◌+◌, ◌*◌, ◌^◌, ◌-◌, ◌<◌, ◌≤◌, ◌++◌, List, take, drop, length, min, not, ◌==◌};
+ghost use Rattle.std.specs.Prelude.{slice_index_or, IsTrue, IfOk, None, Some};
 ghost use Rattle.std.specs.List.{prefix_len};
 ghost use Rattle.std.specs.Option.{option_map};
 ghost use Rattle.std.specs.Str.{all_ascii_digits};

@@ -2,7 +2,8 @@
 ghost use Rattle.std.specs.Prelude.{◌≡◌, ◌++◌, ◌+◌, ◌≤◌, ◌<◌, length, take, OnOk, OnErr};
 ghost use Rattle.std.specs.Char.{digit_char};
 ghost use Rattle.std.specs.Net.Addr.{ipv4_octets, ipv6_segments};
-ghost use Rattle.std.specs.Net.Text.{ipv4_text, ipv6_text, hex, groups_text, hex_groups_text, leading_zero_digits, longest_zero_run};
+ghost use Rattle.std.specs.Net.Text.{ipv4_text, ipv6_text, hex, groups_text, hex_groups_text, leading_zero_digits};
+ghost use Rattle.std.specs.Net.Text.{longest_zero_run};
 
 use crate::bytes::Bytes;
 use crate::fault::NoMemory;

@@ -1,7 +1,8 @@
 // A value from a field, and the value that stands where none is given.
 ghost use Rattle.std.specs.Prelude.{◌≡◌, IfOk, Err};
 ghost use Rattle.dict_value.specs.Memory.{UnlessNoMemory};
-ghost use Rattle.dict_value.specs.Values.{FitsColumn, HasType, IsStringField, IsStringText, default_of_column, reading, text_reading};
+ghost use Rattle.dict_value.specs.Values.{FitsColumn, HasType, IsStringField, IsStringText, default_of_column, reading};
+ghost use Rattle.dict_value.specs.Values.{text_reading};
 ghost use Rattle.dict_value.specs.declared.value.BadValue.TheVariants as fault;
 
 use crate::addresses::{read_v4, read_v6};

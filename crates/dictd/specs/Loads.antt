@@ -2,12 +2,15 @@
 use Rattle.std.specs.Prelude.{◌≡◌, ◌≢◌, ◌<◌, ◌≤◌, ◌⊎◌, ℕ, List, [], ◌∷◌, ◌++◌, Option, length, map, pos, if◌then◌else◌}
 use Rattle.std.specs.List.{concat}
 use Rattle.dict_value.specs.declared.fault.Cause.{Cause}
-use Rattle.dict_value.specs.declared.fault.Cause.TheVariants.{Start as NoStart, Read, TimedOut, Status, Killed as WasKilled, Longer, Spent, NoMemory as CauseNoMemory}
+use Rattle.dict_value.specs.declared.fault.Cause.TheVariants.{Start as NoStart, Read, TimedOut, Status}
+use Rattle.dict_value.specs.declared.fault.Cause.TheVariants.{Killed as WasKilled, Longer, Spent}
+use Rattle.dict_value.specs.declared.fault.Cause.TheVariants.{NoMemory as CauseNoMemory}
 use Rattle.dict_value.specs.declared.fault.Exit.{Exit}
 use Rattle.dict_value.specs.declared.fault.Exit.TheVariants.{Code, Killed}
 use Rattle.child_io.specs.declared.child.Script.{Script}
 use Rattle.child_io.specs.declared.pieces.PieceEnd.{PieceEnd}
-use Rattle.child_io.specs.declared.pieces.PieceEnd.TheVariants.{NotStarted, WriteFailed, Cut, TooLong, WaitFailed, Ended, NoMemory as NoMemoryFound}
+use Rattle.child_io.specs.declared.pieces.PieceEnd.TheVariants.{NotStarted, WriteFailed, Cut, TooLong, WaitFailed}
+use Rattle.child_io.specs.declared.pieces.PieceEnd.TheVariants.{Ended, NoMemory as NoMemoryFound}
 use Rattle.child_io.specs.Runs.{RunTold}
 use Rattle.load_core.specs.declared.dictionary.DictCore.{DictCore}
 use Rattle.load_core.specs.declared.dictionary.DictEvent.{DictEvent}

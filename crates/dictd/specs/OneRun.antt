@@ -1,5 +1,6 @@
 -- One run of `once`: what it reads, starts and writes, and its status.
-use Rattle.std.specs.Prelude.{◌≡◌, ◌<◌, ◌≤◌, ℕ, List, [], ◌∷◌, ◌++◌, ◌⊎◌, Option, Some, IfSome, ⊤, Result, Ok, Err, codes, length, take}
+use Rattle.std.specs.Prelude.{◌≡◌, ◌<◌, ◌≤◌, ℕ, List, [], ◌∷◌, ◌++◌, ◌⊎◌, Option, Some, IfSome, ⊤, Result, Ok, Err}
+use Rattle.std.specs.Prelude.{codes, length, take}
 use Rattle.std.specs.Io.KnownBytes.{prepend_known, append_known}
 use Rattle.child_io.specs.declared.child.Script.{Script}
 use Rattle.dictd.specs.declared.thin.ThinDefinition.{ThinDefinition}
@@ -7,7 +8,8 @@ use Rattle.dictd.specs.declared.ending.LoadEnd.{LoadEnd}
 use Rattle.dictd.specs.declared.input.InputEnd.{InputEnd}
 use Rattle.dictd.specs.declared.input.InputEnd.TheVariants.{Ended, Failed, TooLong}
 use Rattle.dictd.specs.declared.status.Status.{Status}
-use Rattle.dictd.specs.declared.status.Status.TheVariants.{Done, Usage, DefsUnread, DefsRefused, ReadFault, WriteFault, LineTooLong, DefsTooLong, NoMemory}
+use Rattle.dictd.specs.declared.status.Status.TheVariants.{Done, Usage, DefsUnread, DefsRefused, ReadFault, WriteFault}
+use Rattle.dictd.specs.declared.status.Status.TheVariants.{LineTooLong, DefsTooLong, NoMemory}
 use Rattle.dict_io.specs.declared.outside.Failed.{Failed as WriteFailed}
 use Rattle.dictd.specs.CommandLine.{IsOnce}
 use Rattle.dictd.specs.ThinText.{Defines}

@@ -2,7 +2,8 @@
 use Rattle.std.specs.Prelude.{◌≡◌, ◌≤◌, ℕ, List, [], ◌∷◌, ◌++◌, ◌⊎◌, Option, codes, length, take}
 use Rattle.std.specs.Io.KnownBytes.{append_known}
 use Rattle.dictd.specs.declared.status.Status.{Status}
-use Rattle.dictd.specs.declared.status.Status.TheVariants.{Done, Usage, DefsUnread, DefsRefused, ReadFault, WriteFault, LineTooLong, DefsTooLong, NoMemory}
+use Rattle.dictd.specs.declared.status.Status.TheVariants.{Done, Usage, DefsUnread, DefsRefused, ReadFault, WriteFault}
+use Rattle.dictd.specs.declared.status.Status.TheVariants.{LineTooLong, DefsTooLong, NoMemory}
 
 -- the number that the program ends with
 abbrev pub status_number : Status → ℕ

@@ -1,5 +1,6 @@
 // One session: a reply for each line of an input, in order.
-ghost use Rattle.std.specs.Prelude.{◌≡◌, ◌++◌, ◌∷◌, [], ℕ, List, codes, IsErr, IfOk, OnOk, MatchOption, MatchResult, MatchBool};
+ghost use Rattle.std.specs.Prelude.{◌≡◌, ◌++◌, ◌∷◌, [], ℕ, List, codes, IsErr, IfOk, OnOk, MatchOption, MatchResult};
+ghost use Rattle.std.specs.Prelude.{MatchBool};
 ghost use Rattle.dict_io.specs.Outside.{HasCause};
 ghost use Rattle.dictd.specs.Loads.{State};
 ghost use Rattle.dictd.specs.Requests.{AsksFor, AsksToLoad, IsValue, refusal};

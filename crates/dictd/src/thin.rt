@@ -1,8 +1,10 @@
 // The definitions file that is built today: one flat dictionary with one key and one text attribute.
-ghost use Rattle.std.specs.Prelude.{◌≡◌, ◌∷◌, ◌++◌, ◌↔◌, ◌≤◌, ℕ, List, MatchOption, MatchResult, MatchBool, IsTrue, IfOk};
+ghost use Rattle.std.specs.Prelude.{◌≡◌, ◌∷◌, ◌++◌, ◌↔◌, ◌≤◌, ℕ, List, MatchOption, MatchResult, MatchBool, IsTrue};
+ghost use Rattle.std.specs.Prelude.{IfOk};
 ghost use Rattle.std.specs.List.{AllByRecursion};
 ghost use Rattle.dict_value.specs.Split.{Lacks};
-ghost use Rattle.dictd.specs.ThinText.{IsLetter, IsNameByte, IsBareName, IsCommandByte, IsCommand, doubled, source_of, IsFaultAt, IsClosed, HasFields, HasNoFields, HasNames, Defines};
+ghost use Rattle.dictd.specs.ThinText.{IsLetter, IsNameByte, IsBareName, IsCommandByte, IsCommand, doubled, source_of};
+ghost use Rattle.dictd.specs.ThinText.{IsFaultAt, IsClosed, HasFields, HasNoFields, HasNames, Defines};
 
 use dict_schema::{Format, Kind, SourceOf, Update};
 use dict_value::{Bytes, NoMemory, split_at_byte};

@@ -1,6 +1,7 @@
 -- The bytes of a key list: for each value its kind, how many digits its number has to the base 256, these digits from
 -- the lowest on, and its text; and an end mark.
-use Rattle.std.specs.Prelude.{◌≡◌, ◌/◌, ◌%◌, ◌==◌, ℕ, zero, suc, List, [], ◌∷◌, ◌++◌, length, if◌then◌else◌, pos, negsuc, unsigned_abs}
+use Rattle.std.specs.Prelude.{◌≡◌, ◌/◌, ◌%◌, ◌==◌, ℕ, zero, suc, List, [], ◌∷◌, ◌++◌, length, if◌then◌else◌, pos}
+use Rattle.std.specs.Prelude.{negsuc, unsigned_abs}
 use Rattle.dict_value.specs.declared.value.Value.{Value}
 use Rattle.dict_value.specs.declared.value.Value.TheVariants.{U, I, S, Day, Second, Id, V4, V6, Dec, Null}
 use Rattle.hashed_layout.specs.declared.key_bytes.TheConstants.{END_MARK}

@@ -1,5 +1,6 @@
 -- How an open table is probed: from the home of a key on, over the end to the front.
-use Rattle.std.specs.Prelude.{◌≡◌, ◌≢◌, ℕ, ◌+◌, ◌-◌, ◌*◌, ◌/◌, ◌%◌, ◌^◌, ◌<◌, Option, Some, None, bit_xor, nat_lt, if◌then◌else◌}
+use Rattle.std.specs.Prelude.{◌≡◌, ◌≢◌, ℕ, ◌+◌, ◌-◌, ◌*◌, ◌/◌, ◌%◌, ◌^◌, ◌<◌, Option, Some, None, bit_xor, nat_lt}
+use Rattle.std.specs.Prelude.{if◌then◌else◌}
 
 -- the cell of a probe
 abbrev pub probed : ℕ → ℕ → ℕ → ℕ

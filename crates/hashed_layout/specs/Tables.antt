@@ -1,5 +1,6 @@
 -- What the table of a list of keys keeps.
-use Rattle.std.specs.Prelude.{◌≡◌, ◌-◌, ◌+◌, ◌*◌, ◌^◌, ◌==◌, ◌<◌, ℕ, List, Option, Some, None, length, slice_get, if◌then◌else◌}
+use Rattle.std.specs.Prelude.{◌≡◌, ◌-◌, ◌+◌, ◌*◌, ◌^◌, ◌==◌, ◌<◌, ℕ, List, Option, Some, None, length, slice_get}
+use Rattle.std.specs.Prelude.{if◌then◌else◌}
 use Rattle.dict_value.specs.FindByKey.{HasKeyAt, IsLeastPlace}
 use Rattle.hashed_layout.specs.Probing.{IsMet, home_of}
 use Rattle.hashed_layout.specs.declared.hashed.Cell.{Cell}

@@ -1,6 +1,7 @@
 // The bytes of key lists, compared and hashed without being written down.
 ghost use Rattle.std.specs.Prelude.{◌≡◌, ◌≢◌, ◌≤◌, ◌↔◌, ◌∷◌, ◌++◌, ℕ, List, length, take, IsTrue, MatchOption, OnOk};
-ghost use Rattle.hashed_layout.specs.KeyBytes.{BeginsWithKey, digits_to, head_bytes, key_bytes, kind_of, number_of, string_of, value_bytes};
+ghost use Rattle.hashed_layout.specs.KeyBytes.{BeginsWithKey, digits_to, head_bytes, key_bytes, kind_of, number_of};
+ghost use Rattle.hashed_layout.specs.KeyBytes.{string_of, value_bytes};
 ghost use Rattle.hashed_layout.specs.KeyHash.{hash_of};
 
 use dict_value::{Bytes, KeyList, NoMemory, Value};

@@ -1,5 +1,6 @@
 -- The tokens of a text as a function, which the code computes step by step.
-use Rattle.std.specs.Prelude.{◌≡◌, ◌<◌, ◌≤◌, ℕ, zero, suc, ◌+◌, ◌-◌, ◌*◌, Bool, true, false, ◌&&◌, not, ◌==◌, List, [], ◌∷◌, length, take, drop, Result, Ok, Err, Option, Some, None, if◌then◌else◌, unwrap_or}
+use Rattle.std.specs.Prelude.{◌≡◌, ◌<◌, ◌≤◌, ℕ, zero, suc, ◌+◌, ◌-◌, ◌*◌, Bool, true, false, ◌&&◌, not, ◌==◌, List, []}
+use Rattle.std.specs.Prelude.{◌∷◌, length, take, drop, Result, Ok, Err, Option, Some, None, if◌then◌else◌, unwrap_or}
 use Rattle.std.specs.List.{prefix_len}
 use Rattle.std.specs.Borrow.{Bor}
 use Rattle.ddl_tokens.specs.declared.token.TokenKind.{TokenKind}
@@ -9,7 +10,8 @@ use Rattle.ddl_tokens.specs.declared.quoted.Scan.{Scan}
 use Rattle.ddl_tokens.specs.declared.quoted.Scan.TheVariants as scan
 use Rattle.ddl_tokens.specs.declared.quoted.Step.{Step}
 use Rattle.ddl_tokens.specs.declared.quoted.Step.TheVariants as step
-use Rattle.ddl_tokens.specs.Letters.{is_blank, is_digit, is_word_start, is_word_byte, is_sign, is_number_sign, quoted_kind, begins_with}
+use Rattle.ddl_tokens.specs.Letters.{is_blank, is_digit, is_word_start, is_word_byte, is_sign, is_number_sign}
+use Rattle.ddl_tokens.specs.Letters.{quoted_kind, begins_with}
 use Rattle.ddl_tokens.specs.Quoted.{hex_digit, begins_with_digits, unescaped}
 use Rattle.ddl_tokens.specs.Tokens.{Token}
 

@@ -1,5 +1,6 @@
 -- A table of the first rows.
-use Rattle.std.specs.Prelude.{◌≡◌, ◌≢◌, ◌+◌, ◌-◌, ◌<◌, ◌≤◌, ◌==◌, ◌⊎◌, ℕ, List, [], ◌∷◌, Option, Some, None, length, slice_get, slice_index, if◌then◌else◌}
+use Rattle.std.specs.Prelude.{◌≡◌, ◌≢◌, ◌+◌, ◌-◌, ◌<◌, ◌≤◌, ◌==◌, ◌⊎◌, ℕ, List, [], ◌∷◌, Option, Some, None, length}
+use Rattle.std.specs.Prelude.{slice_get, slice_index, if◌then◌else◌}
 use Rattle.hashed_layout.specs.Probing.{IsMet, home_of, probed}
 use Rattle.hashed_layout.specs.Tables.{held, key_of}
 use Rattle.hashed_layout.specs.declared.hashed.Cell.{Cell}

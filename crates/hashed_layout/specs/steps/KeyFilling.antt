@@ -1,5 +1,6 @@
 -- A table of the first key lists.
-use Rattle.std.specs.Prelude.{◌≡◌, ◌≢◌, ◌-◌, ◌+◌, ◌<◌, ◌≤◌, ◌⊎◌, ℕ, zero, suc, List, [], ◌∷◌, Option, Some, None, drop, length, slice_get, slice_index}
+use Rattle.std.specs.Prelude.{◌≡◌, ◌≢◌, ◌-◌, ◌+◌, ◌<◌, ◌≤◌, ◌⊎◌, ℕ, zero, suc, List, [], ◌∷◌, Option, Some, None, drop}
+use Rattle.std.specs.Prelude.{length, slice_get, slice_index}
 use Rattle.dict_value.specs.FindByKey.{HasKeyAt}
 use Rattle.dict_value.specs.declared.value.Value.{Value}
 use Rattle.hashed_layout.specs.KeyBytes.{BeginsWithKey}
