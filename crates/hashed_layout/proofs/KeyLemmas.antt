@@ -1,5 +1,5 @@
 -- Two key lists with the same bytes are one, and no key's bytes begin with those of another.
-use Rattle.std.proofs.Common.{◌≡◌, ◌≢◌, ℕ, zero, suc, ◌+◌, ◌-◌, ◌*◌, ◌/◌, ◌%◌, ◌^◌, ◌<◌, ◌≤◌, ◌==◌, ℤ, pos, negsuc, unsigned_abs, cond, eqb, List, [], ◌∷◌, ◌++◌, length, take, drop, inl, inr, refl, ap, arith, sym, ◌∙◌, subst, ne_eqb, set, get_or, append-nil, ◌↔◌, drop-cons, eq-eqb}
+use Rattle.std.proofs.Common.{◌≡◌, ◌≢◌, ℕ, zero, suc, ◌+◌, ◌-◌, ◌*◌, ◌/◌, ◌%◌, ◌^◌, ◌<◌, ◌≤◌, ◌==◌, pos, negsuc, cond, eqb, List, [], ◌∷◌, ◌++◌, length, take, drop, inl, inr, refl, ap, arith, sym, ◌∙◌, ne_eqb, set, get_or, append-nil, ◌↔◌, drop-cons, eq-eqb}
 use Rattle.std.proofs.Math.Nat.{pow-succ'}
 use Rattle.std.proofs.Math.Seq.{drop-append_seam, take-append_seam, take-set-lt}
 use Rattle.std.proofs.lemmas.Bool.{cases_eq, cases_lt, eqb-true}

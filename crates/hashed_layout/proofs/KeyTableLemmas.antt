@@ -1,16 +1,16 @@
 -- Lemmas on the table of a list of key lists.
-use Rattle.std.proofs.Common.{◌≡◌, ◌≢◌, ◌↔◌, ℕ, zero, suc, ◌+◌, ◌-◌, ◌*◌, ◌^◌, ◌<◌, ◌≤◌, ◌==◌, cond, eqb, List, [], ◌∷◌, ◌++◌, length, take, drop, get_or, set, replicate, Option, Some, None, inl, inr, refl, ap, arith, sym, ◌∙◌, subst, length-set, length-append, append-nil, ne_eqb, get_or-set_same, get_or-set_other}
+use Rattle.std.proofs.Common.{◌≡◌, ◌≢◌, ◌↔◌, ℕ, zero, suc, ◌+◌, ◌-◌, ◌<◌, ◌≤◌, cond, eqb, List, [], ◌∷◌, ◌++◌, length, take, drop, get_or, set, replicate, Option, Some, None, inl, inr, refl, ap, arith, sym, ◌∙◌, subst, length-set, length-append, append-nil, ne_eqb, get_or-set_same, get_or-set_other}
 use Rattle.std.specs.List.{slice_get}
 use Rattle.std.specs.Prelude.{Bool, IsTrue, is_some}
 use Rattle.std.proofs.Math.Seq.{drop-append_seam, take-length}
 use Rattle.std.proofs.lemmas.Bool.{cases_eq, cases_lt}
 use Rattle.std.proofs.lemmas.List.{append_assoc, drop-append-le, drop_all, get_or-replicate, get_or_default, get_or_past, length-drop, length-replicate}
-use Rattle.std.proofs.lemmas.Option.{slice_get-get_or, slice_get_cases, slice_get_past, slice_get_read, slice_get_within}
+use Rattle.std.proofs.lemmas.Option.{slice_get-get_or, slice_get_past, slice_get_read, slice_get_within}
 use Rattle.dict_value.specs.FindByKey.{FindsByKey, HasKeyAt, IsLeastPlace}
 use Rattle.dict_value.specs.declared.value.Value.{Value}
 use Rattle.hashed_layout.specs.KeyBytes.{BeginsWithKey, key_bytes}
 use Rattle.hashed_layout.specs.KeyTables.{IsKeyTableOf, key_held, key_home, start_of}
-use Rattle.hashed_layout.specs.Probing.{IsMet, probed}
+use Rattle.hashed_layout.specs.Probing.{IsMet}
 use Rattle.hashed_layout.specs.declared.complex.Entry.{Entry}
 use Rattle.hashed_layout.specs.steps.Filling.{Lands, Passes}
 use Rattle.hashed_layout.specs.steps.KeyFilling.{IsKeyTableTo, IsLeastOf, Skips, Stops, StopsAt, TellsKey, zeros}

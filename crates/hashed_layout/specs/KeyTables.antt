@@ -22,10 +22,12 @@ key_held distinct cells i = if slice_index cells i == 0 then None else slice_get
 
 -- The distinct keys, each with its bytes and its least place; each cell's number is one of them, and each key is met
 -- by its probes.
-pub record IsKeyTableOf (keys : List (List Value)) (bytes : List ℕ) (entries : List Entry) (cells : List ℕ) : Type 0 where
+pub record IsKeyTableOf (keys : List (List Value)) (bytes : List ℕ) (entries : List Entry)
+    (cells : List ℕ) : Type 0 where
   pub distinct : List (List Value)
   pub count : length entries ≡ length distinct
-  pub stored : (n : ℕ) (key : List Value) (entry : Entry) → slice_get distinct n ≡ Some key → slice_get entries n ≡ Some entry
+  pub stored : (n : ℕ) (key : List Value) (entry : Entry) → slice_get distinct n ≡ Some key
+      → slice_get entries n ≡ Some entry
       → BeginsWithKey (drop (start_of entry) bytes) key × IsLeastPlace keys key entry.place
   pub numbered : (i : ℕ) → i < length cells → slice_index cells i ≤ length distinct
   pub met : (place : ℕ) (key : List Value) → HasKeyAt keys key place

@@ -81,14 +81,16 @@ fn string_of(value: &Value) -> &[u8]
 
 /// What follows a piece that bytes begin with.
 fn behind<'a>(bytes: &'a [u8], piece: &[u8]) -> Option<&'a [u8]>
-    ensures { MatchOption result ((rest : List ℕ) → bytes.now ≢ piece.now ++ rest) (λ rest. bytes.now ≡ piece.now ++ rest.now) }
+    ensures { MatchOption result ((rest : List ℕ) → bytes.now ≢ piece.now ++ rest)
+        (λ rest. bytes.now ≡ piece.now ++ rest.now) }
 {
     bytes.strip_prefix(piece)
 }
 
 /// What follows the bytes of a value that bytes begin with.
 fn behind_value<'a>(bytes: &'a [u8], value: &Value) -> Option<&'a [u8]>
-    ensures { MatchOption result ((rest : List ℕ) → bytes.now ≢ value_bytes value.now ++ rest) (λ rest. bytes.now ≡ value_bytes value.now ++ rest.now) }
+    ensures { MatchOption result ((rest : List ℕ) → bytes.now ≢ value_bytes value.now ++ rest)
+        (λ rest. bytes.now ≡ value_bytes value.now ++ rest.now) }
 {
     let head = head_of(value);
     let Some(rest) = behind(bytes, &head.bytes[..head.len]) else {

@@ -10,23 +10,28 @@ use Rattle.hashed_layout.specs.declared.complex.Entry.{Entry}
 
 -- the entry of a cell's number has the bytes of the key
 abbrev pub TellsKey : List Entry → List ℕ → List Value → ℕ → Type 0
-TellsKey entries bytes key number = (entry : Entry) × (slice_get entries (number - 1) ≡ Some entry) × BeginsWithKey (drop (start_of entry) bytes) key
+TellsKey entries bytes key number =
+    (entry : Entry) × (slice_get entries (number - 1) ≡ Some entry) × BeginsWithKey (drop (start_of entry) bytes) key
 
 -- the cell of the table has another key
 abbrev pub Skips : List Entry → List ℕ → List ℕ → List Value → ℕ → Type 0
-Skips entries bytes cells key i = (i < length cells) × (slice_index cells i ≢ 0) × ¬ (TellsKey entries bytes key (slice_index cells i))
+Skips entries bytes cells key i =
+    (i < length cells) × (slice_index cells i ≢ 0) × ¬ (TellsKey entries bytes key (slice_index cells i))
 
 -- the probes come to cell i, which is free or has the key, behind cells with other keys
 pub record Stops (entries : List Entry) (bytes cells : List ℕ) (key : List Value) (i : ℕ) : Type 0 where
   pub probe : ℕ
   pub near : probe < length cells
   pub at : i ≡ probed (length cells) (key_home (length cells) key) probe
-  pub skips : (earlier : ℕ) → earlier < probe → Skips entries bytes cells key (probed (length cells) (key_home (length cells) key) earlier)
+  pub skips : (earlier : ℕ) → earlier < probe
+      → Skips entries bytes cells key (probed (length cells) (key_home (length cells) key) earlier)
   pub stops : (slice_index cells i ≡ 0) ⊎ TellsKey entries bytes key (slice_index cells i)
 
 -- where the probes of a key end: at a cell, or nowhere where each cell has another key
 abbrev pub StopsAt : List Entry → List ℕ → List ℕ → List Value → Option ℕ → Type 0
-StopsAt entries bytes cells key None = (probe : ℕ) → probe < length cells → Skips entries bytes cells key (probed (length cells) (key_home (length cells) key) probe)
+StopsAt entries bytes cells key None =
+    (probe : ℕ) → probe < length cells
+    → Skips entries bytes cells key (probed (length cells) (key_home (length cells) key) probe)
 StopsAt entries bytes cells key (Some i) = Stops entries bytes cells key i
 
 -- how many numbers are 0
@@ -42,11 +47,13 @@ pub record IsLeastOf (keys : List (List Value)) (count : ℕ) (key : List Value)
   pub least : (earlier : ℕ) → earlier < place → ¬ (HasKeyAt keys key earlier)
 
 -- a table of the first rows
-pub record IsKeyTableTo (keys : List (List Value)) (count : ℕ) (bytes : List ℕ) (entries : List Entry) (cells : List ℕ) : Type 0 where
+pub record IsKeyTableTo (keys : List (List Value)) (count : ℕ) (bytes : List ℕ) (entries : List Entry)
+    (cells : List ℕ) : Type 0 where
   pub distinct : List (List Value)
   pub same : length entries ≡ length distinct
   pub few : length entries ≤ count
-  pub stored : (n : ℕ) (key : List Value) (entry : Entry) → slice_get distinct n ≡ Some key → slice_get entries n ≡ Some entry
+  pub stored : (n : ℕ) (key : List Value) (entry : Entry) → slice_get distinct n ≡ Some key
+      → slice_get entries n ≡ Some entry
       → BeginsWithKey (drop (start_of entry) bytes) key × IsLeastOf keys count key entry.place
   pub numbered : (i : ℕ) → i < length cells → slice_index cells i ≤ length distinct
   pub met : (place : ℕ) (key : List Value) → place < count → HasKeyAt keys key place

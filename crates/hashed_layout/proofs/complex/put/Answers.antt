@@ -1,10 +1,7 @@
 -- The row is added, or its key is there.
-use Rattle.std.proofs.Common.{◌≡◌, ◌≢◌, ◌<◌, ◌+◌, ◌++◌, ◌∷◌, [], ◌∙◌, ℕ, List, ap, arith, get_or, length, length-append, refl, subst, sym}
-use Rattle.std.specs.Prelude.{Option, None, Some}
-use Rattle.dict_value.specs.declared.value.Value.{Value}
+use Rattle.std.proofs.Common.{◌≡◌, ◌<◌, ◌+◌, ◌∙◌, ℕ, List, ap, arith, get_or, length, length-append, refl, subst, sym}
+use Rattle.std.specs.Prelude.{None, Some}
 use Rattle.hashed_layout.specs.KeyTables.{key_home}
-use Rattle.hashed_layout.specs.declared.complex.Entry.{Entry}
-use Rattle.hashed_layout.specs.steps.KeyFilling.{IsKeyTableTo}
 use Rattle.hashed_layout.proofs.KeyTableLemmas.{added-key, full-keys, kept-key, number-read, row-read, stops-moved, table-moved}
 use Rattle.hashed_layout.proofs.complex.put.Goals as goal
 

@@ -1,9 +1,8 @@
 -- The entry that was read tells.
-use Rattle.std.proofs.Common.{◌≡◌, ◌-◌, ◌∙◌, List, ap, arith, drop, length, refl, subst, sym}
+use Rattle.std.proofs.Common.{◌≡◌, ◌-◌, ◌∙◌, List, ap, arith, drop, refl, subst}
 use Rattle.std.specs.Prelude.{IsTrue, ◌↔◌, ℕ}
 use Rattle.hashed_layout.specs.KeyBytes.{BeginsWithKey}
 use Rattle.hashed_layout.specs.KeyTables.{start_of}
-use Rattle.hashed_layout.specs.declared.complex.Entry.{Entry}
 use Rattle.hashed_layout.proofs.KeyTableLemmas.{begins-within, bytes-from, entry-read, told-by}
 use Rattle.hashed_layout.proofs.complex.tells_key.Goals as goal
 

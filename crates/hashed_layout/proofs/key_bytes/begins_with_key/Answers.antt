@@ -1,5 +1,5 @@
 -- Value by value.
-use Rattle.std.proofs.Common.{◌≡◌, ◌<◌, ◌∙◌, List, ap, arith, get_or, length, subst}
+use Rattle.std.proofs.Common.{◌≡◌, ◌<◌, List, ap, arith, get_or, length, subst}
 use Rattle.std.proofs.lemmas.Bool.Decides.{nat_tests}
 use Rattle.dict_value.specs.declared.value.Value.{Value}
 use Rattle.hashed_layout.proofs.KeyLemmas.{end-told, next-left}

@@ -1,5 +1,5 @@
 -- The digits so far stand behind the kind, and the others follow.
-use Rattle.std.proofs.Common.{◌≡◌, ◌+◌, ◌-◌, ◌<◌, ◌≤◌, ◌^◌, ◌∷◌, ◌++◌, length, take}
+use Rattle.std.proofs.Common.{◌≡◌, ◌+◌, ◌-◌, ◌≤◌, ◌∷◌, ◌++◌, length, take}
 use Rattle.hashed_layout.specs.KeyBytes.{digits_to}
 use Rattle.hashed_layout.proofs.key_bytes.head_from.Given as goal
 

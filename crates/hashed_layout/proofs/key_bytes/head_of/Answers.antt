@@ -1,5 +1,5 @@
 -- Sixteen digits are all of a number of 128 bits.
-use Rattle.std.proofs.Common.{◌∷◌, ◌<◌, ◌^◌, ◌∙◌, List, ap, arith, length}
+use Rattle.std.proofs.Common.{◌∷◌, ◌<◌, ◌^◌, ◌∙◌, ap, arith, length}
 use Rattle.hashed_layout.specs.KeyBytes.{digits_of, number_of}
 use Rattle.hashed_layout.proofs.KeyLemmas.{digits-all}
 use Rattle.hashed_layout.proofs.key_bytes.head_of.Goals as goal

@@ -1,5 +1,5 @@
 -- From the empty table to that of all rows.
-use Rattle.std.proofs.Common.{◌≡◌, ◌*◌, ◌∙◌, ℕ, List, [], ap, arith, length, refl, subst, sym}
+use Rattle.std.proofs.Common.{◌≡◌, ◌*◌, ◌∙◌, ℕ, List, [], ap, arith, length, subst, sym}
 use Rattle.std.proofs.lemmas.List.{length-replicate}
 use Rattle.hashed_layout.specs.declared.complex.Entry.{Entry}
 use Rattle.hashed_layout.specs.steps.KeyFilling.{IsKeyTableTo}

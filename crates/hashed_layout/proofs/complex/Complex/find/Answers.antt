@@ -1,10 +1,7 @@
 -- What the probes came to is what is found.
-use Rattle.std.proofs.Common.{◌≡◌, ◌≢◌, ◌<◌, ◌-◌, ◌∙◌, ℕ, List, ap, arith, get_or, length, subst, sym}
-use Rattle.std.specs.Prelude.{Option, None, Some}
+use Rattle.std.proofs.Common.{◌≡◌, ◌<◌, ◌-◌, ◌∙◌, ℕ, List, ap, get_or, length, subst, sym}
+use Rattle.std.specs.Prelude.{None, Some}
 use Rattle.dict_value.specs.FindByKey.{FindsByKey}
-use Rattle.dict_value.specs.declared.value.Value.{Value}
-use Rattle.hashed_layout.specs.steps.KeyFilling.{Stops, StopsAt}
-use Rattle.hashed_layout.specs.declared.complex.Entry.{Entry}
 use Rattle.hashed_layout.proofs.KeyTableLemmas.{entry-read, found-free, found-nowhere, found-taken, number-read, stops-moved}
 use Rattle.hashed_layout.proofs.complex.Complex.find.Goals as goal
 
