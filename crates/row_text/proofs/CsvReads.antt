@@ -1,5 +1,5 @@
 -- The records that the reader of `csv` finds in a line.
-use Rattle.std.proofs.Common.{◌≡◌, ◌<◌, ◌+◌, ◌∷◌, ◌++◌, ◌∙◌, [], ℕ, List, length, take, map, Option, Some, None, refl, sym, ap, subst, inl, inr, true, false, Result, Ok, Err}
+use Rattle.std.proofs.Common.{◌≡◌, ◌<◌, ◌+◌, ◌∷◌, ◌++◌, ◌∙◌, [], Bool, ℕ, List, length, take, map, Option, Some, None, refl, sym, ap, subst, inl, inr, true, false, Result, Ok, Err}
 use Rattle.std.proofs.lemmas.List.{map-append, take_all, take_more}
 use Rattle.std.proofs.lemmas.Bool.{cases_lt}
 use Rattle.csv.specs.Machine.{Read, next_record}
@@ -27,14 +27,14 @@ pub record Fresh {R : Type 0} (rem : R → Option (List ℕ)) (a : Reader R) (by
   pub source : source_of rem a ≡ Some bytes
   pub start : st.StartRecord ≡ a.state
 
-pub fresh : {R : Type 0} (rem : R → Option (List ℕ)) (a : Reader R) (bytes : List ℕ) (none named flexible : ReaderBuilder)
-    → builder_config none ≡ default_config → builder_trim none ≡ trim.None → named ≡ with_names_headers none false → flexible ≡ with_flexible named true
+pub fresh : {R : Type 0} (rem : R → Option (List ℕ)) (a : Reader R) (bytes : List ℕ) (none named flexible : ReaderBuilder) {b : Bool}
+    → builder_config none ≡ default_config → builder_trim none ≡ trim.None → named ≡ with_names_headers none false → flexible ≡ with_flexible named b
     → reader_config a ≡ builder_config flexible → names_headers a ≡ builder_names_headers flexible → reader_trim a ≡ builder_trim flexible
     → reader_headers a ≡ None → reader_state a ≡ st.StartRecord → source_of rem a ≡ Some bytes → Fresh rem a bytes
-fresh rem a bytes none named flexible config trims n f rc rh rt headers state source = record {
-  untrimmed = rt ∙ ap builder_trim (f ∙ ap (λ (b : ReaderBuilder). with_flexible b true) n) ∙ trims;
-  ready = inr (inr (rh ∙ ap builder_names_headers (f ∙ ap (λ (b : ReaderBuilder). with_flexible b true) n), headers));
-  config = rc ∙ ap builder_config (f ∙ ap (λ (b : ReaderBuilder). with_flexible b true) n) ∙ config;
+fresh rem a bytes none named flexible {b} config trims n f rc rh rt headers state source = record {
+  untrimmed = rt ∙ ap builder_trim (f ∙ ap (λ (x : ReaderBuilder). with_flexible x b) n) ∙ trims;
+  ready = inr (inr (rh ∙ ap builder_names_headers (f ∙ ap (λ (x : ReaderBuilder). with_flexible x b) n), headers));
+  config = rc ∙ ap builder_config (f ∙ ap (λ (x : ReaderBuilder). with_flexible x b) n) ∙ config;
   source = source;
   start = sym state;
 }
