@@ -2,11 +2,8 @@
 use Rattle.std.specs.Prelude.{◌≡◌, ◌≢◌, ◌<◌, ◌⊎◌, ℕ, slice_index_or, List, [], ◌∷◌, ◌++◌, length}
 use Rattle.std.specs.Prelude.{Bool, ◌||◌, ◌==◌, nat_lt, if◌then◌else◌, codes}
 use Rattle.std.specs.List.{All, filter, slice_split}
+use Rattle.dict_value.specs.Letters.{is_blank_byte}
 use Rattle.dict_schema.specs.declared.definition.SourceOf.{SourceOf}
-
--- a space or a tab
-abbrev pub is_blank_byte : ℕ → Bool
-is_blank_byte b = (b == 32) || (b == 9)
 
 -- a text cut at its blanks, without the empty parts
 abbrev pub words_in : List ℕ → List (List ℕ)

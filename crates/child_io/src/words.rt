@@ -1,7 +1,8 @@
 // The words that a child is started with.
 ghost use Rattle.std.specs.Prelude.{◌≡◌, ◌≢◌, IfOk, MatchOption, if◌then◌else◌};
 ghost use Rattle.std.specs.List.{All};
-ghost use Rattle.child_io.specs.Words.{in_folder, is_blank_byte, program_in, source_words, words_in};
+ghost use Rattle.dict_value.specs.Letters.{is_blank_byte};
+ghost use Rattle.child_io.specs.Words.{in_folder, program_in, source_words, words_in};
 ghost use Rattle.child_io.specs.Words.{IsFolder, IsLastSlash};
 
 use dict_schema::SourceOf;

@@ -6,7 +6,7 @@ use Rattle.std.proofs.lemmas.Bool.{eqb-true, ne_eqb, cond-true, cond-false, case
 use Rattle.std.proofs.lemmas.List.{append-nil, take_at, drop_at}
 use Rattle.ddl_tokens.specs.declared.token.TokenKind.{TokenKind}
 use Rattle.ddl_tokens.specs.declared.token.TokenKind.TheVariants.{Word, QuotedWord, Number, String, Sign, Broken, End}
-use Rattle.ddl_tokens.specs.Letters.{is_blank, is_digit, is_word_start, is_word_byte, is_sign, is_number_sign, quoted_kind, is_quote, begins_with}
+use Rattle.ddl_tokens.specs.Letters.{is_space, is_digit, is_word_start, is_word_byte, is_sign, is_number_sign, quoted_kind, is_quote, begins_with}
 use Rattle.ddl_tokens.specs.Tokens.{Token, IsGap, IsLastGap, IsToken, word, whole, fraction, sign as one_sign, quoted, IsBroken, strange, open_comment, open_quote, bad_escape, can_begin, TokensFrom, ends, breaks, next, IsNumberSign, IsDigits}
 use Rattle.ddl_tokens.specs.steps.Lexer.{after_gap, between, plain, bytes_in, Ending, closed, bad, open_ended, ending, number_len, token, front, in_quotes, unquoted, quoted_or_not, token_at, behind_gap, next_token, is_last, tokens_by, tokens, ahead}
 use Rattle.ddl_tokens.proofs.Skipped.{begins_gap, gap_again, stays, open_comment_stays, last_gap_left, leaves, Leaves}
@@ -17,7 +17,7 @@ use Rattle.ddl_tokens.proofs.Numerals.{AllPass, run, run_is, number_cases, Begin
 
 -- what is known of a byte that begins a word
 abbrev pub NoneOfWord : ℕ → Type 0
-NoneOfWord b = (is_blank b ≡ false) × ((b == 45) ≡ false) × ((b == 47) ≡ false)
+NoneOfWord b = (is_space b ≡ false) × ((b == 45) ≡ false) × ((b == 47) ≡ false)
 
 or4 : (w x y z : Bool) → w ≡ false → x ≡ false → y ≡ false → z ≡ false → (w || x || y || z) ≡ false
 or4 w x y z e f g h = or_from (w || x || y) z (or_from (w || x) y (or_from w x e f) g) h
@@ -38,10 +38,10 @@ word_is_high b e = elim (or_cases ((nat_le 97 b && nat_le b 122) || (nat_le 65 b
   | inr x ↦ let k = eqb-true b 95 x in omega (arith, k)
 ]
 
-no_gap : (b : ℕ) (bs : List ℕ) → is_blank b ≡ false → (b == 45) ≡ false → (b == 47) ≡ false → begins_gap (b ∷ bs) ≡ false
+no_gap : (b : ℕ) (bs : List ℕ) → is_space b ≡ false → (b == 45) ≡ false → (b == 47) ≡ false → begins_gap (b ∷ bs) ≡ false
 no_gap b bs e f g =
-    or_from (is_blank b || ((b == 45) && begins_with (λ c. c == 45) bs)) ((b == 47) && begins_with (λ c. c == 42) bs)
-    (or_from (is_blank b) ((b == 45) && begins_with (λ c. c == 45) bs) e (and_left (b == 45) (begins_with (λ c. c == 45) bs) f))
+    or_from (is_space b || ((b == 45) && begins_with (λ c. c == 45) bs)) ((b == 47) && begins_with (λ c. c == 42) bs)
+    (or_from (is_space b) ((b == 45) && begins_with (λ c. c == 45) bs) e (and_left (b == 45) (begins_with (λ c. c == 45) bs) f))
     (and_left (b == 47) (begins_with (λ c. c == 42) bs) g)
 
 digit_bounds : (b : ℕ) → is_digit b ≡ true → (48 ≤ b) × (b ≤ 57)
@@ -249,26 +249,26 @@ strange_parts b bs e =
     let dashes = (b == 45) && begins_with (λ c. c == 45) bs in
     let stars = (b == 47) && begins_with (λ c. c == 42) bs in
     let signed = is_number_sign b && begins_with is_digit bs in
-    let p = or_parts (is_blank b || is_word_start b || is_quote b || is_sign b || is_digit b || signed || dashes) stars e in
-    let q = or_parts (is_blank b || is_word_start b || is_quote b || is_sign b || is_digit b || signed) dashes p.0 in
-    let r = or_parts (is_blank b || is_word_start b || is_quote b || is_sign b || is_digit b) signed q.0 in
-    let s = or_parts (is_blank b || is_word_start b || is_quote b || is_sign b) (is_digit b) r.0 in
-    let t = or_parts (is_blank b || is_word_start b || is_quote b) (is_sign b) s.0 in
-    let u = or_parts (is_blank b || is_word_start b) (is_quote b) t.0 in
-    let v = or_parts (is_blank b) (is_word_start b) u.0 in
-    record { stays = or_from (is_blank b || dashes) stars (or_from (is_blank b) dashes v.0 q.1) p.1; word = v.1; quote = u.1; sign = t.1; number = (s.1, r.1) }
+    let p = or_parts (is_space b || is_word_start b || is_quote b || is_sign b || is_digit b || signed || dashes) stars e in
+    let q = or_parts (is_space b || is_word_start b || is_quote b || is_sign b || is_digit b || signed) dashes p.0 in
+    let r = or_parts (is_space b || is_word_start b || is_quote b || is_sign b || is_digit b) signed q.0 in
+    let s = or_parts (is_space b || is_word_start b || is_quote b || is_sign b) (is_digit b) r.0 in
+    let t = or_parts (is_space b || is_word_start b || is_quote b) (is_sign b) s.0 in
+    let u = or_parts (is_space b || is_word_start b) (is_quote b) t.0 in
+    let v = or_parts (is_space b) (is_word_start b) u.0 in
+    record { stays = or_from (is_space b || dashes) stars (or_from (is_space b) dashes v.0 q.1) p.1; word = v.1; quote = u.1; sign = t.1; number = (s.1, r.1) }
 
 parts_strange : (b : ℕ) (bs : List ℕ) → Strange b bs → can_begin (b ∷ bs) ≡ false
 parts_strange b bs s =
     let dashes = (b == 45) && begins_with (λ c. c == 45) bs in
     let stars = (b == 47) && begins_with (λ c. c == 42) bs in
     let signed = is_number_sign b && begins_with is_digit bs in
-    let p = or_parts (is_blank b || dashes) stars s.stays in
-    let q = or_parts (is_blank b) dashes p.0 in
-    or_from (is_blank b || is_word_start b || is_quote b || is_sign b || is_digit b || signed || dashes) stars
-    (or_from (is_blank b || is_word_start b || is_quote b || is_sign b || is_digit b || signed) dashes
-    (or_from (is_blank b || is_word_start b || is_quote b || is_sign b || is_digit b) signed
-    (or4 (is_blank b || is_word_start b) (is_quote b) (is_sign b) (is_digit b) (or_from (is_blank b) (is_word_start b) q.0 s.word) s.quote s.sign s.number.0)
+    let p = or_parts (is_space b || dashes) stars s.stays in
+    let q = or_parts (is_space b) dashes p.0 in
+    or_from (is_space b || is_word_start b || is_quote b || is_sign b || is_digit b || signed || dashes) stars
+    (or_from (is_space b || is_word_start b || is_quote b || is_sign b || is_digit b || signed) dashes
+    (or_from (is_space b || is_word_start b || is_quote b || is_sign b || is_digit b) signed
+    (or4 (is_space b || is_word_start b) (is_quote b) (is_sign b) (is_digit b) (or_from (is_space b) (is_word_start b) q.0 s.word) s.quote s.sign s.number.0)
     s.number.1) q.1) p.1
 
 strange_at : (size b : ℕ) (bs : List ℕ) → Strange b bs → token_at size (b ∷ bs) ≡ (token (size - length (b ∷ bs)) Broken [], [])

@@ -4,7 +4,7 @@ use Rattle.std.specs.Prelude.{◌==◌, ◌&&◌, ◌||◌, codes}
 use Rattle.std.proofs.lemmas.Bool.{eqb-true, ne_eqb, cond-true, cond-false, eqb-false, cases_Bool, and_parts, and_from, or_parts, eq-eqb}
 use Rattle.std.proofs.lemmas.List.{append-nil as nil_right}
 use Rattle.dict_value.specs.Split.{Lacks}
-use Rattle.ddl_tokens.specs.Letters.{is_blank, begins_with}
+use Rattle.ddl_tokens.specs.Letters.{is_space, begins_with}
 use Rattle.ddl_tokens.specs.Tokens.{Has, IsComment, line as line_comment, block as block_comment, IsGap, empty, blank, comment, IsLastGap}
 use Rattle.ddl_tokens.specs.steps.Lexer.{after_gap, between, line, block}
 
@@ -67,7 +67,7 @@ comment_again own more (block_comment text e h) = ap (λ t. after_gap between 0 
 pub gap_again : (gap more : List ℕ) → IsGap gap → after_gap between 0 (gap ++ more) ≡ after_gap between 0 more
 unfolding after_gap
 gap_again gap more empty = refl
-gap_again gap more (blank {b = b} {rest = rest} e g) = cond-true (is_blank b) _ _ e ∙ gap_again rest more g
+gap_again gap more (blank {b = b} {rest = rest} e g) = cond-true (is_space b) _ _ e ∙ gap_again rest more g
 gap_again gap more (comment {own = own} {rest = rest} parts c g) =
     ap (λ t. after_gap between 0 (t ++ more)) parts ∙ ap (after_gap between 0) (append_assoc own rest more) ∙ comment_again own (rest ++ more) c ∙ gap_again rest more g
 
@@ -75,7 +75,7 @@ gap_again gap more (comment {own = own} {rest = rest} parts c g) =
 
 abbrev pub begins_gap : List ℕ → Bool
 begins_gap [] = false
-begins_gap (b ∷ bs) = is_blank b || ((b == 45) && begins_with (λ c. c == 45) bs) || ((b == 47) && begins_with (λ c. c == 42) bs)
+begins_gap (b ∷ bs) = is_space b || ((b == 45) && begins_with (λ c. c == 45) bs) || ((b == 47) && begins_with (λ c. c == 42) bs)
 
 -- a comment from here on has no end
 pub record Unended (text : List ℕ) (n : ℕ) : Type 0 where
@@ -181,11 +181,11 @@ leaves_nothing : Leaves [] (after_gap between 0 [])
 unfolding after_gap
 leaves_nothing = inl empty
 
-stands : (b : ℕ) (bs : List ℕ) → is_blank b ≡ false → ((b == 45) && begins_with (λ c. c == 45) bs) ≡ false → ((b == 47) && begins_with (λ c. c == 42) bs) ≡ false → Leaves (b ∷ bs) (after_gap between 0 (b ∷ bs))
+stands : (b : ℕ) (bs : List ℕ) → is_space b ≡ false → ((b == 45) && begins_with (λ c. c == 45) bs) ≡ false → ((b == 47) && begins_with (λ c. c == 42) bs) ≡ false → Leaves (b ∷ bs) (after_gap between 0 (b ∷ bs))
 unfolding after_gap
 stands b bs e f g =
-    subst (λ r. Leaves (b ∷ bs) r) (sym (cond-false (is_blank b) _ _ e ∙ cond-false ((b == 45) && begins_with (λ c. c == 45) bs) _ _ f ∙ cond-false ((b == 47) && begins_with (λ c. c == 42) bs) _ _ g))
-    (record { gap = []; parts = refl; is_gap = empty; stops = or_parts3 (is_blank b) ((b == 45) && begins_with (λ c. c == 45) bs) ((b == 47) && begins_with (λ c. c == 42) bs) e f g })
+    subst (λ r. Leaves (b ∷ bs) r) (sym (cond-false (is_space b) _ _ e ∙ cond-false ((b == 45) && begins_with (λ c. c == 45) bs) _ _ f ∙ cond-false ((b == 47) && begins_with (λ c. c == 42) bs) _ _ g))
+    (record { gap = []; parts = refl; is_gap = empty; stops = or_parts3 (is_space b) ((b == 45) && begins_with (λ c. c == 45) bs) ((b == 47) && begins_with (λ c. c == 42) bs) e f g })
 
 dashes_end : (rest : List ℕ) → Lacks 10 rest → Leaves (codes "--" ++ rest) (after_gap between 0 (codes "--" ++ rest))
 unfolding after_gap
@@ -228,7 +228,7 @@ stars b (c ∷ cs) f ih =
 leaves_at : (n : ℕ) (text : List ℕ) → length text < n → Leaves text (after_gap between 0 text)
 leaves_at zero text lt = absurd (omega arith)
 leaves_at (suc n) [] lt = leaves_nothing
-leaves_at (suc n) (b ∷ bs) lt = elim (cases_Bool (is_blank b)) [
+leaves_at (suc n) (b ∷ bs) lt = elim (cases_Bool (is_space b)) [
   | inl e ↦ subst (λ r. Leaves (b ∷ bs) r) (sym (gap_again (b ∷ []) bs (blank e empty))) (leaves_more (b ∷ []) bs (after_gap between 0 bs) (blank e empty) (leaves_at n bs (omega arith)))
   | inr e ↦ elim (cases_Bool ((b == 45) && begins_with (λ c. c == 45) bs)) [
     | inl f ↦ dashes b bs f (λ t l. leaves_at n t (omega arith))
@@ -247,9 +247,9 @@ leaves text = leaves_at (suc (length text)) text (omega arith)
 pub stays : (b : ℕ) (bs : List ℕ) → begins_gap (b ∷ bs) ≡ false → after_gap between 0 (b ∷ bs) ≡ Ok (b ∷ bs)
 unfolding after_gap
 stays b bs e =
-    let p = or_parts (is_blank b || ((b == 45) && begins_with (λ c. c == 45) bs)) ((b == 47) && begins_with (λ c. c == 42) bs) e in
-    let q = or_parts (is_blank b) ((b == 45) && begins_with (λ c. c == 45) bs) p.0 in
-    cond-false (is_blank b) _ _ q.0 ∙ cond-false ((b == 45) && begins_with (λ c. c == 45) bs) _ _ q.1 ∙ cond-false ((b == 47) && begins_with (λ c. c == 42) bs) _ _ p.1
+    let p = or_parts (is_space b || ((b == 45) && begins_with (λ c. c == 45) bs)) ((b == 47) && begins_with (λ c. c == 42) bs) e in
+    let q = or_parts (is_space b) ((b == 45) && begins_with (λ c. c == 45) bs) p.0 in
+    cond-false (is_space b) _ _ q.0 ∙ cond-false ((b == 45) && begins_with (λ c. c == 45) bs) _ _ q.1 ∙ cond-false ((b == 47) && begins_with (λ c. c == 42) bs) _ _ p.1
 
 pub open_comment_stays : (text : List ℕ) → (Has (codes "*/") text → ⊥) → after_gap between 0 (codes "/*" ++ text) ≡ Err (length (codes "/*" ++ text))
 unfolding after_gap

@@ -7,8 +7,8 @@ use Rattle.ddl_tokens.specs.declared.letters.LetterCase.{LetterCase}
 use Rattle.ddl_tokens.specs.declared.letters.LetterCase.TheVariants.{Any, AsWritten}
 
 -- a space, a tab, a carriage return, a line feed
-abbrev pub is_blank : ℕ → Bool
-is_blank b = b == 32 || b == 9 || b == 13 || b == 10
+abbrev pub is_space : ℕ → Bool
+is_space b = b == 32 || b == 9 || b == 13 || b == 10
 
 abbrev pub is_digit : ℕ → Bool
 is_digit b = nat_le 48 b && nat_le b 57

@@ -5,7 +5,7 @@ use Rattle.std.specs.List.{AllByRecursion}
 use Rattle.dict_value.specs.Split.{Lacks}
 use Rattle.ddl_tokens.specs.declared.token.TokenKind.{TokenKind}
 use Rattle.ddl_tokens.specs.declared.token.TokenKind.TheVariants.{Word, Number, Sign, Broken, End}
-use Rattle.ddl_tokens.specs.Letters.{is_blank, is_digit, is_word_start, is_word_byte, is_sign, is_number_sign}
+use Rattle.ddl_tokens.specs.Letters.{is_space, is_digit, is_word_start, is_word_byte, is_sign, is_number_sign}
 use Rattle.ddl_tokens.specs.Letters.{quoted_kind, is_quote, begins_with}
 use Rattle.ddl_tokens.specs.Quoted.{StandsFor, HasEnd, LacksDigits}
 
@@ -29,7 +29,7 @@ pub data IsComment : List ℕ → Type 0 where
 -- blanks and comments, which may stand before a token
 pub data IsGap : List ℕ → Type 0 where
   empty : IsGap []
-  blank : {b : ℕ} {rest : List ℕ} → is_blank b ≡ true → IsGap rest → IsGap (b ∷ rest)
+  blank : {b : ℕ} {rest : List ℕ} → is_space b ≡ true → IsGap rest → IsGap (b ∷ rest)
   comment : {own rest gap : List ℕ} → gap ≡ own ++ rest → IsComment own → IsGap rest → IsGap gap
 
 -- the same behind the last token, where the text may end a comment
@@ -70,7 +70,7 @@ pub data IsToken : TokenKind → List ℕ → List ℕ → List ℕ → Type 0 w
 -- whether a token, a blank or a comment can begin with the first byte
 abbrev pub can_begin : List ℕ → Bool
 can_begin [] = false
-can_begin (b ∷ rest) = is_blank b || is_word_start b || is_quote b || is_sign b || is_digit b
+can_begin (b ∷ rest) = is_space b || is_word_start b || is_quote b || is_sign b || is_digit b
     || (is_number_sign b && begins_with is_digit rest) || (b == 45 && begins_with (λ c. c == 45) rest)
     || (b == 47 && begins_with (λ c. c == 42) rest)
 

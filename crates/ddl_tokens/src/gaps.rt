@@ -2,7 +2,7 @@
 ghost use Rattle.std.specs.Prelude.{◌≡◌, ◌≤◌, ℕ, length, Ok, Err, IfSome, MatchOption, MatchResult};
 ghost use Rattle.ddl_tokens.specs.steps.Lexer.{after_gap, between, line, block};
 
-use crate::letters::is_blank;
+use crate::letters::is_space;
 
 /// What stands behind the line.
 #[tactic(auto, unfolding(crate::specs::steps::Lexer::after_gap))]
@@ -55,7 +55,7 @@ pub(crate) fn after_gap(text: &[u8]) -> Result<&[u8], usize>
                 Some(r) => rest = r,
                 None => return Err(rest.len()),
             },
-            [b, behind @ ..] if is_blank(*b) => rest = behind,
+            [b, behind @ ..] if is_space(*b) => rest = behind,
             _ => return Ok(rest),
         }
     }

@@ -1,6 +1,6 @@
 // The bytes of a definition text, by kind.
 ghost use Rattle.std.specs.Prelude.{◌≡◌};
-ghost use Rattle.ddl_tokens.specs.Letters.{is_blank, is_word_start, is_word_byte, is_digit, is_sign, is_number_sign};
+ghost use Rattle.ddl_tokens.specs.Letters.{is_space, is_word_start, is_word_byte, is_digit, is_sign, is_number_sign};
 ghost use Rattle.ddl_tokens.specs.Letters.{quoted_kind, folded};
 
 use crate::token::TokenKind;
@@ -12,8 +12,8 @@ pub enum LetterCase {
     AsWritten,
 }
 
-pub(crate) fn is_blank(b: u8) -> bool
-    ensures { result ≡ is_blank b }
+pub(crate) fn is_space(b: u8) -> bool
+    ensures { result ≡ is_space b }
 {
     b == b' ' || b == b'\t' || b == b'\r' || b == b'\n'
 }

@@ -1,6 +1,7 @@
 // The source of a definition.
 ghost use Rattle.std.specs.Prelude.{◌≡◌, ◌≢◌, ◌↔◌, IsTrue, IsUtf8, length, not, take_while};
-ghost use Rattle.dict_schema.specs.Commands.{IsBadCommand, IsBlank, IsNoFileName, first_word, is_blank};
+ghost use Rattle.dict_value.specs.Letters.{is_blank_byte};
+ghost use Rattle.dict_schema.specs.Commands.{IsBadCommand, IsBlank, IsNoFileName, first_word};
 ghost use Rattle.dict_schema.specs.Judging.{IsJudged};
 ghost use Rattle.dict_schema.specs.Table.{IsUnused, sources, function_source};
 
@@ -61,7 +62,7 @@ fn is_bad_command(source: &SourceOf) -> bool
 
 /// A space or a tab.
 fn blank(byte: u8) -> bool
-    ensures { result ≡ is_blank byte }
+    ensures { result ≡ is_blank_byte byte }
 {
     byte == b' ' || byte == b'\t'
 }
@@ -82,14 +83,14 @@ fn first_word(command: &[u8]) -> &[u8]
 
 /// How many blanks a text begins with.
 fn blanks_before(text: &[u8]) -> usize
-    ensures { result ≡ length (take_while is_blank text.now) }
+    ensures { result ≡ length (take_while is_blank_byte text.now) }
 {
     text.iter().take_while(|byte| blank(**byte)).count()
 }
 
 /// How many bytes that are no blanks a text begins with.
 fn others_before(text: &[u8]) -> usize
-    ensures { result ≡ length (take_while (λ b. not (is_blank b)) text.now) }
+    ensures { result ≡ length (take_while (λ b. not (is_blank_byte b)) text.now) }
 {
     text.iter().take_while(|byte| !blank(**byte)).count()
 }

@@ -5,6 +5,7 @@ use Rattle.std.specs.List.{prefix_len, suffix_len}
 use Rattle.dict_schema.specs.declared.definition.Role.{Role}
 use Rattle.dict_schema.specs.declared.definition.Role.TheVariants as role
 use Rattle.dict_schema.specs.declared.definition.ShapeColumn.{ShapeColumn}
+use Rattle.dict_value.specs.Letters.{is_blank_byte}
 use Rattle.dict_value.specs.declared.value.AttrType.{AttrType}
 use Rattle.dict_value.specs.declared.value.BadValue.{BadValue}
 use Rattle.dict_value.specs.declared.value.BadValue.TheVariants.{NullNotAllowed}
@@ -18,12 +19,7 @@ use Rattle.dict_value.specs.declared.value.Value.{Value}
 use Rattle.dict_value.specs.declared.value.Value.TheVariants.{Null}
 use Rattle.dict_value.specs.Values.{text_reading}
 use Rattle.row_text.specs.Decoding.{Decoded, Decodes, Reader}
-use Rattle.rows_typed.specs.declared.columns.TheConstants.{SPACE}
-use Rattle.row_text.specs.declared.letters.TheConstants.{BACKSLASH, CAPITAL_N, TAB}
-
--- a space or a tab
-abbrev pub is_blank_byte : ℕ → Bool
-is_blank_byte b = (b == SPACE) || (b == TAB)
+use Rattle.row_text.specs.declared.letters.TheConstants.{BACKSLASH, CAPITAL_N}
 
 -- a text without the blanks at its end
 abbrev pub without_end_blanks : List ℕ → List ℕ

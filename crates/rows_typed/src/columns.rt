@@ -1,7 +1,8 @@
 // What the columns of a shape make of fields.
 ghost use Rattle.std.specs.Prelude.{◌≡◌, length, reverse, take_while};
 ghost use Rattle.row_text.specs.Decoding.{Reads};
-ghost use Rattle.rows_typed.specs.Shapes.{is_blank_byte, is_null_text, column_by, value_at, without_blanks};
+ghost use Rattle.dict_value.specs.Letters.{is_blank_byte};
+ghost use Rattle.rows_typed.specs.Shapes.{is_null_text, column_by, value_at, without_blanks};
 
 use dict_schema::{Role, ShapeColumn};
 use dict_value::{AttrType, BadValue, Bytes, ColType, Field, Format, Value, copy_value, read_text};

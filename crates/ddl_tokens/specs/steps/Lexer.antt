@@ -10,7 +10,7 @@ use Rattle.ddl_tokens.specs.declared.quoted.Scan.{Scan}
 use Rattle.ddl_tokens.specs.declared.quoted.Scan.TheVariants as scan
 use Rattle.ddl_tokens.specs.declared.quoted.Step.{Step}
 use Rattle.ddl_tokens.specs.declared.quoted.Step.TheVariants as step
-use Rattle.ddl_tokens.specs.Letters.{is_blank, is_digit, is_word_start, is_word_byte, is_sign, is_number_sign}
+use Rattle.ddl_tokens.specs.Letters.{is_space, is_digit, is_word_start, is_word_byte, is_sign, is_number_sign}
 use Rattle.ddl_tokens.specs.Letters.{quoted_kind, begins_with}
 use Rattle.ddl_tokens.specs.Quoted.{hex_digit, begins_with_digits, unescaped}
 use Rattle.ddl_tokens.specs.Tokens.{Token}
@@ -29,7 +29,7 @@ pub data Gap : Type 0 where
 unfoldable pub after_gap : Gap → ℕ → List ℕ → Result (List ℕ) ℕ
 after_gap between from [] = Ok []
 after_gap between from (b ∷ bs) =
-    if is_blank b then after_gap between from bs
+    if is_space b then after_gap between from bs
     else (if b == 45 && begins_with (λ c. c == 45) bs then after_gap line from bs
     else (if b == 47 && begins_with (λ c. c == 42) bs then after_gap opening (length (b ∷ bs)) bs
     else Ok (b ∷ bs)))

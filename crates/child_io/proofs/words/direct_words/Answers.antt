@@ -3,7 +3,8 @@ use Rattle.std.specs.List.{filter}
 use Rattle.std.specs.Slice.Iter.{split_rest, split_done, split_callee}
 use Rattle.std.proofs.lemmas.Iterator.Consumers.{YieldsList-end}
 use Rattle.std.proofs.lemmas.Iterator.Splits.{YieldsList-from_slice_split}
-use Rattle.child_io.specs.Words.{is_blank_byte, in_folder}
+use Rattle.dict_value.specs.Letters.{is_blank_byte}
+use Rattle.child_io.specs.Words.{in_folder}
 use Rattle.child_io.proofs.words.direct_words.Goals as goal
 
 pub returns : goal.returns
