@@ -22,9 +22,9 @@ mod words;
 use crate::status::{Status, tell};
 use child_io::OsSpawner;
 use dict_io::{FileShelf, StdSink, StdSource, SystemClock};
+use std::env;
 use std::io::{ErrorKind, Write};
 use std::process::ExitCode;
-use std::env;
 
 /// Runs the words of the call, and ends with the number of the status.
 fn main(rt: HostRuntime) -> ExitCode {

@@ -100,9 +100,9 @@ one-verdict number text (Some c) (Some d) p q = ap Some (one-cause (Decodes Tab 
 row-key : (row : List Value) → HasSmallKey row ⊎ ((key : ℕ) × HasKey row key × (key_bound ≤ key))
 row-key [] = inl (λ key h. absurd (cc (h.1)))
 row-key (value.U n ∷ row) = elim (cases_lt n key_bound) [
-    | inl lt ↦ inl (λ key h. let same : n ≡ key = cc (h.1) in omega arith)
-    | inr ge ↦ inr (n, (row, refl), ge)
-  ]
+  | inl lt ↦ inl (λ key h. let same : n ≡ key = cc (h.1) in omega arith)
+  | inr ge ↦ inr (n, (row, refl), ge)
+]
 row-key (value.Null ∷ row) = inl (λ key h. absurd (cc (h.1)))
 row-key (value.I z ∷ row) = inl (λ key h. absurd (cc (h.1)))
 row-key (value.S text ∷ row) = inl (λ key h. absurd (cc (h.1)))
@@ -117,12 +117,12 @@ row-key (value.Dec z ∷ row) = inl (λ key h. absurd (cc (h.1)))
 first-key : (rows : List (List Value)) → AllByRecursion HasSmallKey rows ⊎ ((key : ℕ) × IsFirstLarge rows key)
 first-key [] = inl tt
 first-key (row ∷ rows) = elim (row-key row) [
-    | inr (key, has, large) ↦ inr (key, record { before = []; row = row; after = rows; parts = refl; small = tt; here = has; large = large })
-    | inl small ↦ elim (first-key rows) [
-        | inl all ↦ inl (small, all)
-        | inr (key, f) ↦ inr (key, record { before = row ∷ f.before; row = f.row; after = f.after; parts = ap (λ (z : List (List Value)). row ∷ z) f.parts; small = (small, f.small); here = f.here; large = f.large })
-      ]
+  | inr (key, has, large) ↦ inr (key, record { before = []; row = row; after = rows; parts = refl; small = tt; here = has; large = large })
+  | inl small ↦ elim (first-key rows) [
+    | inl all ↦ inl (small, all)
+    | inr (key, f) ↦ inr (key, record { before = row ∷ f.before; row = f.row; after = f.after; parts = ap (λ (z : List (List Value)). row ∷ z) f.parts; small = (small, f.small); here = f.here; large = f.large })
   ]
+]
 
 -- each text has a verdict
 pub some-verdict : (number : ℕ) (text : List ℕ) → (verdict : Option Cause) × row_verdicts number text verdict

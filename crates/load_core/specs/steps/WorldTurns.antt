@@ -24,7 +24,7 @@ IsShort x = length x.bytes ≤ most_bytes
 abbrev pub TurnsAt : Verdicts → World → ℕ → WorldEvent → World → Type 0
 TurnsAt judges old d event new =
     MatchOption (dict_at old d) (new ≡ old)
-        (λ x. (y : WorldDict) × DictTurn judges x event y × (new ≡ with_dict old d y))
+    (λ x. (y : WorldDict) × DictTurn judges x event y × (new ≡ with_dict old d y))
 
 -- what a caller knows of the dictionary at a place takes the number; where there is none, nothing changes
 abbrev pub KnowsAt : List WorldCaller → ℕ → CallerEvent → List WorldCaller → Type 0
