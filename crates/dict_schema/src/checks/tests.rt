@@ -30,8 +30,11 @@ enum Wrong {
     NullableKey,
     KeyType,
     RangeMissing,
+    RangePlaceMissing,
     RangeUnused,
     RangeType,
+    RangeOfKey,
+    RangeOfOneColumn,
     HierarchyType,
     SecondParent,
     BadDefault,
@@ -72,6 +75,33 @@ fn with_column<F: FnOnce(&mut crate::Column)>(
     d.columns = ListOf::from_vec(columns);
 }
 
+/// Two more columns, `from` and `to`, which are the ends of the range.
+fn push_range(
+    alloc: Global,
+    d: &mut Definition,
+    first: ColType,
+    last: ColType,
+) -> Result<(), NoMemory> {
+    let first = AttrType {
+        base: first,
+        nullable: false,
+    };
+    let last = AttrType {
+        base: last,
+        nullable: true,
+    };
+    let place = d.columns.len() as u8;
+    d.columns.push(column(alloc, b"from", first, false)?)?;
+    d.columns.push(column(alloc, b"to", last, false)?)?;
+    if place < 200 {
+        d.range = RangeOf::Columns {
+            start: place,
+            end: place + 1,
+        };
+    }
+    Ok(())
+}
+
 fn set_keys(alloc: Global, d: &mut Definition, keys: &[u8]) -> Result<(), NoMemory> {
     d.keys = ListOf::new(alloc);
     for key in keys {
@@ -83,7 +113,15 @@ fn set_keys(alloc: Global, d: &mut Definition, keys: &[u8]) -> Result<(), NoMemo
 fn make(alloc: Global, d: &mut Definition, wrong: Wrong) -> Result<(), NoMemory> {
     match wrong {
         Wrong::Columns => push_columns(alloc, d, 62)?,
-        Wrong::Keys => set_keys(alloc, d, &[0; 17])?,
+        Wrong::Keys => {
+            d.layout = Layout::ComplexHashed;
+            push_columns(alloc, d, 17)?;
+            set_keys(
+                alloc,
+                d,
+                &[0, 3, 4, 5, 6, 7, 8, 9, 10, 11, 12, 13, 14, 15, 16, 17, 18],
+            )?;
+        }
         Wrong::OwnName => d.name.clear(),
         Wrong::ColumnName => {
             let name = long(alloc, 256)?;
@@ -98,13 +136,22 @@ fn make(alloc: Global, d: &mut Definition, wrong: Wrong) -> Result<(), NoMemory>
             d.lifetime.min = 5;
             d.lifetime.max = 4;
         }
-        Wrong::NoKey => set_keys(alloc, d, &[])?,
-        Wrong::KeyMissing => set_keys(alloc, d, &[0, 9])?,
+        Wrong::NoKey => {
+            d.layout = Layout::ComplexHashed;
+            set_keys(alloc, d, &[])?;
+        }
+        Wrong::KeyMissing => {
+            d.layout = Layout::ComplexHashed;
+            set_keys(alloc, d, &[0, 9])?;
+        }
         Wrong::DuplicateName => {
             let name = Bytes::copy_of(alloc, b"id")?;
             with_column(alloc, d, 2, |column| column.name = name);
         }
-        Wrong::KeyTwice => set_keys(alloc, d, &[0, 0])?,
+        Wrong::KeyTwice => {
+            d.layout = Layout::ComplexHashed;
+            set_keys(alloc, d, &[0, 0])?;
+        }
         Wrong::SimpleKeyType => with_column(alloc, d, 0, |column| column.ty.base = ColType::UInt32),
         Wrong::NullableKey => with_column(alloc, d, 0, |column| column.ty.nullable = true),
         Wrong::KeyType => {
@@ -114,10 +161,24 @@ fn make(alloc: Global, d: &mut Definition, wrong: Wrong) -> Result<(), NoMemory>
             with_column(alloc, d, 0, |column| column.ty.nullable = true);
         }
         Wrong::RangeMissing => d.layout = Layout::ComplexRangeHashed(Strategy::Min),
-        Wrong::RangeUnused => d.range = RangeOf::Columns { start: 1, end: 2 },
+        Wrong::RangePlaceMissing => {
+            d.layout = Layout::RangeHashed(Strategy::Min);
+            d.range = RangeOf::Columns { start: 1, end: 9 };
+        }
+        Wrong::RangeUnused => push_range(alloc, d, ColType::Date, ColType::Date)?,
         Wrong::RangeType => {
+            push_range(alloc, d, ColType::Date, ColType::DateTime)?;
             d.layout = Layout::RangeHashed(Strategy::Max);
-            d.range = RangeOf::Columns { start: 1, end: 2 };
+        }
+        Wrong::RangeOfKey => {
+            push_range(alloc, d, ColType::UInt64, ColType::UInt64)?;
+            d.layout = Layout::RangeHashed(Strategy::Max);
+            d.range = RangeOf::Columns { start: 0, end: 4 };
+        }
+        Wrong::RangeOfOneColumn => {
+            push_range(alloc, d, ColType::Int8, ColType::Int8)?;
+            d.layout = Layout::RangeHashed(Strategy::Max);
+            d.range = RangeOf::Columns { start: 3, end: 3 };
         }
         Wrong::HierarchyType => with_column(alloc, d, 2, |column| column.hierarchical = true),
         Wrong::SecondParent => with_column(alloc, d, 2, |column| {
@@ -165,11 +226,13 @@ fn each_fault_alone(rt: HostRuntime) -> Result<(), Fail> {
         (Wrong::DuplicateName, DefFault::DuplicateName(3)),
         (Wrong::KeyTwice, DefFault::DuplicateName(1)),
         (Wrong::SimpleKeyType, DefFault::SimpleKeyType),
-        (Wrong::NullableKey, DefFault::SimpleKeyType),
         (Wrong::KeyType, DefFault::KeyType(1)),
         (Wrong::RangeMissing, DefFault::RangeMissing),
+        (Wrong::RangePlaceMissing, DefFault::RangeMissing),
         (Wrong::RangeUnused, DefFault::RangeUnused),
         (Wrong::RangeType, DefFault::RangeType),
+        (Wrong::RangeOfKey, DefFault::RangeType),
+        (Wrong::RangeOfOneColumn, DefFault::RangeType),
         (Wrong::HierarchyType, DefFault::HierarchyType(3)),
         (Wrong::SecondParent, DefFault::HierarchyType(3)),
         (Wrong::BadDefault, DefFault::BadDefault(3)),
@@ -194,7 +257,7 @@ fn the_earlier_of_two_faults(rt: HostRuntime) -> Result<(), Fail> {
         (
             Wrong::Columns,
             Wrong::Keys,
-            DefFault::Limit(Which::Columns, 65),
+            DefFault::Limit(Which::Columns, 82),
         ),
         (
             Wrong::Keys,
@@ -398,37 +461,174 @@ fn settings_at_their_bounds(rt: HostRuntime) -> Result<(), Fail> {
     Ok(())
 }
 
+/// What is made wrong of a function, in the order of the table.
+#[derive(Clone, Copy, Debug)]
+enum WrongFunction {
+    Arguments,
+    OwnName,
+    ArgumentName,
+    LongCommand,
+    Output,
+    PoolSize,
+    NoArguments,
+    DuplicateName,
+    Command,
+    Update,
+}
+
+fn make_function(alloc: Global, f: &mut FunctionDef, wrong: WrongFunction) -> Result<(), NoMemory> {
+    match wrong {
+        WrongFunction::Arguments => {
+            for name in b'b'..=b'q' {
+                push_argument(alloc, f, &[name])?;
+            }
+        }
+        WrongFunction::OwnName => f.name = long(alloc, 256)?,
+        WrongFunction::ArgumentName => push_argument(alloc, f, b"")?,
+        WrongFunction::LongCommand => f.source.command = long(alloc, 4097)?,
+        WrongFunction::Output => f.max_output = 134_217_729,
+        WrongFunction::PoolSize => f.source.pool_size = 1025,
+        WrongFunction::NoArguments => f.args = ListOf::new(alloc),
+        WrongFunction::DuplicateName => push_argument(alloc, f, b"a")?,
+        WrongFunction::Command => {
+            f.source.direct = true;
+            f.source.command = Bytes::copy_of(alloc, b". x")?;
+        }
+        WrongFunction::Update => {
+            f.source.update = Update::Field {
+                name: Bytes::new(alloc),
+                lag: 0,
+            };
+        }
+    }
+    Ok(())
+}
+
 #[test]
 fn functions_with_each_fault(rt: HostRuntime) -> Result<(), Fail> {
     let alloc = rt.alloc();
     assert_eq!(rt; check_function(&function(alloc)?), Ok(()));
+    let table = [
+        (WrongFunction::Arguments, DefFault::Limit(Which::Args, 17)),
+        (WrongFunction::OwnName, DefFault::Limit(Which::Name, 256)),
+        (WrongFunction::ArgumentName, DefFault::Limit(Which::Name, 0)),
+        (
+            WrongFunction::LongCommand,
+            DefFault::Limit(Which::Command, 4097),
+        ),
+        (
+            WrongFunction::Output,
+            DefFault::Limit(Which::Output, 134_217_729),
+        ),
+        (
+            WrongFunction::PoolSize,
+            DefFault::Limit(Which::PoolSize, 1025),
+        ),
+        (WrongFunction::NoArguments, DefFault::NoArguments),
+        (WrongFunction::DuplicateName, DefFault::DuplicateName(2)),
+        (WrongFunction::Command, DefFault::Command),
+        (WrongFunction::Update, DefFault::UpdateLayout),
+    ];
+    for (wrong, fault) in table {
+        let mut f = function(alloc)?;
+        make_function(alloc, &mut f, wrong)?;
+        assert_eq!(rt; check_function(&f), Err(fault), "{wrong:?}");
+    }
+    // Each stands beside the next one that can, and is told first.
+    for (place, (wrong, fault)) in table.into_iter().enumerate() {
+        let Some((next, _)) = table.get(place + 1) else {
+            break;
+        };
+        let mut f = function(alloc)?;
+        make_function(alloc, &mut f, *next)?;
+        make_function(alloc, &mut f, wrong)?;
+        assert_eq!(rt; check_function(&f), Err(fault), "{wrong:?} and {next:?}");
+    }
+    Ok(())
+}
+
+#[test]
+fn functions_at_their_bounds(rt: HostRuntime) -> Result<(), Fail> {
+    let alloc = rt.alloc();
     let mut f = function(alloc)?;
-    f.args = ListOf::new(alloc);
-    assert_eq!(rt; check_function(&f), Err(DefFault::NoArguments));
-    f.name.clear();
-    assert_eq!(rt; check_function(&f), Err(DefFault::Limit(Which::Name, 0)));
-    let mut f = function(alloc)?;
-    f.source.command = Bytes::copy_of(alloc, b"..")?;
-    assert_eq!(rt; check_function(&f), Ok(()));
-    f.source.direct = true;
-    assert_eq!(rt; check_function(&f), Err(DefFault::Command));
-    push_argument(alloc, &mut f, b"a")?;
-    assert_eq!(rt; check_function(&f), Err(DefFault::DuplicateName(2)));
-    let mut f = function(alloc)?;
-    f.source.update = Update::Field {
-        name: Bytes::new(alloc),
-        lag: 0,
-    };
-    assert_eq!(rt; check_function(&f), Err(DefFault::UpdateLayout));
     for name in b'b'..=b'p' {
         push_argument(alloc, &mut f, &[name])?;
     }
-    assert_eq!(rt;
-        (f.args.len(), check_function(&f)),
-        (16, Err(DefFault::UpdateLayout))
-    );
-    push_argument(alloc, &mut f, b"q")?;
-    assert_eq!(rt; check_function(&f), Err(DefFault::Limit(Which::Args, 17)));
+    f.name = long(alloc, 255)?;
+    f.source.command = long(alloc, 4096)?;
+    f.source.pool_size = 1024;
+    f.max_output = 134_217_728;
+    f.source.direct = true;
+    assert_eq!(rt; (f.args.len(), check_function(&f)), (16, Ok(())));
+    Ok(())
+}
+
+#[test]
+fn commands_that_are_none(rt: HostRuntime) -> Result<(), Fail> {
+    let alloc = rt.alloc();
+    let table = [
+        (b"\xff".as_slice(), false, Err(DefFault::Command)),
+        (b" \t ".as_slice(), false, Err(DefFault::Command)),
+        (b"a/b c".as_slice(), false, Ok(())),
+        (b"a/b c".as_slice(), true, Err(DefFault::Command)),
+        (b"  . c".as_slice(), true, Err(DefFault::Command)),
+        (b"..".as_slice(), true, Err(DefFault::Command)),
+        (b"... c/d".as_slice(), true, Ok(())),
+        (b"\ta.b".as_slice(), true, Ok(())),
+    ];
+    for (command, direct, answer) in table {
+        let mut d = hashed(alloc)?;
+        d.source.command = Bytes::copy_of(alloc, command)?;
+        d.source.direct = direct;
+        assert_eq!(rt; check(&d), answer, "{command:?}");
+    }
+    Ok(())
+}
+
+#[test]
+fn layouts_with_their_keys_and_updates(rt: HostRuntime) -> Result<(), Fail> {
+    let alloc = rt.alloc();
+    let flat = Layout::Flat { initial: 0, max: 1 };
+    let table = [
+        (flat, Ok(())),
+        (Layout::Hashed, Ok(())),
+        (Layout::SparseHashed, Ok(())),
+        (Layout::HashedArray, Ok(())),
+        (Layout::ComplexHashed, Ok(())),
+        (Layout::ComplexSparseHashed, Ok(())),
+        (Layout::ComplexHashedArray, Ok(())),
+        (Layout::IpTrie, Err(DefFault::SimpleKeyType)),
+        (Layout::Cache(CELLS), Err(DefFault::UpdateLayout)),
+        (Layout::ComplexCache(CELLS), Err(DefFault::UpdateLayout)),
+        (Layout::Direct, Err(DefFault::UpdateLayout)),
+        (Layout::ComplexDirect, Err(DefFault::UpdateLayout)),
+    ];
+    for (layout, answer) in table {
+        let mut d = hashed(alloc)?;
+        make(alloc, &mut d, Wrong::Update)?;
+        d.layout = layout;
+        assert_eq!(rt; check(&d), answer, "{layout:?}");
+    }
+    let mut d = hashed(alloc)?;
+    d.layout = Layout::Direct;
+    d.source.kind = Kind::Pool;
+    assert_eq!(rt; check(&d), Ok(()));
+    let mut d = hashed(alloc)?;
+    push_range(alloc, &mut d, ColType::Int64, ColType::Int64)?;
+    d.layout = Layout::RangeHashed(Strategy::Min);
+    assert_eq!(rt; check(&d), Ok(()));
+    d.layout = Layout::IpTrie;
+    assert_eq!(rt; check(&d), Err(DefFault::SimpleKeyType));
+    let text = Bytes::new(alloc);
+    with_column(alloc, &mut d, 0, |column| {
+        column.ty = TEXT;
+        column.default = Value::S(text);
+    });
+    assert_eq!(rt; check(&d), Err(DefFault::RangeUnused));
+    d.range = RangeOf::None;
+    assert_eq!(rt; check(&d), Ok(()));
+    with_column(alloc, &mut d, 0, |column| column.ty.nullable = true);
+    assert_eq!(rt; check(&d), Err(DefFault::SimpleKeyType));
     Ok(())
 }
 

@@ -1,7 +1,9 @@
 // The columns of rows, by their order and roles.
 use crate::sketch::{NUMBER, TEXT, column, hashed};
-use crate::{Layout, RangeOf, Role, Strategy, is_keyed, keyed_shape, shape};
-use dict_value::{ColType, ListOf};
+use crate::{Definition, Layout, RangeOf, Role, Strategy, is_keyed, keyed_shape, shape};
+use dict_value::{AttrType, Bytes, ColType, ListOf, NoMemory, Value, same_value};
+use std::alloc::Global;
+use std::mem;
 use std::test::Fail;
 
 #[test]
@@ -28,6 +30,49 @@ fn keys_then_ends_then_others(rt: HostRuntime) -> Result<(), Fail> {
     assert_eq!(rt; rows.len(), wanted.len());
     for (column, (role, base)) in rows.as_slice().iter().zip(wanted) {
         assert_eq!(rt; (column.role, column.ty.base), (role, base));
+    }
+    Ok(())
+}
+
+/// The attribute `x` gets a default of its own, and may be NULL.
+fn with_default(alloc: Global, d: &mut Definition) -> Result<(), NoMemory> {
+    let text = Bytes::copy_of(alloc, b"none")?;
+    let mut columns = mem::replace(&mut d.columns, ListOf::new(alloc)).into_vec();
+    if let Some(column) = columns.get_mut(2) {
+        column.default = Value::S(text);
+        column.ty.nullable = true;
+    }
+    d.columns = ListOf::from_vec(columns);
+    Ok(())
+}
+
+#[test]
+fn types_and_defaults_are_those_of_the_columns(rt: HostRuntime) -> Result<(), Fail> {
+    let alloc = rt.alloc();
+    let mut d = hashed(alloc)?;
+    with_default(alloc, &mut d)?;
+    let none = Value::S(Bytes::copy_of(alloc, b"none")?);
+    let wanted = [
+        (Role::Key, NUMBER, Value::U(0)),
+        (Role::Attribute, NUMBER, Value::U(0)),
+        (
+            Role::Attribute,
+            AttrType {
+                base: ColType::Str,
+                nullable: true,
+            },
+            none,
+        ),
+    ];
+    for implicit in [false, true] {
+        d.source.implicit = implicit;
+        let rows = keyed_shape(alloc, &d)?;
+        let left = if implicit { &wanted[1..] } else { &wanted[..] };
+        assert_eq!(rt; rows.len(), left.len());
+        for (column, (role, ty, default)) in rows.as_slice().iter().zip(left) {
+            assert_eq!(rt; (column.role, column.ty), (*role, *ty));
+            assert!(rt; same_value(&column.default, default));
+        }
     }
     Ok(())
 }
