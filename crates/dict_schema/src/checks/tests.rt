@@ -67,7 +67,9 @@ fn with_column<F: FnOnce(&mut crate::Column)>(
     d: &mut Definition,
     place: usize,
     change: F,
-) {
+)
+    requires { F.IsAlwaysCallable change }
+{
     let mut columns = mem::replace(&mut d.columns, ListOf::new(alloc)).into_vec();
     if let Some(column) = columns.get_mut(place) {
         change(column);
@@ -90,15 +92,13 @@ fn push_range(
         base: last,
         nullable: true,
     };
-    let place = d.columns.len() as u8;
+    let place = u8::try_from(d.columns.len()).unwrap_or(0);
     d.columns.push(column(alloc, b"from", first, false)?)?;
     d.columns.push(column(alloc, b"to", last, false)?)?;
-    if place < 200 {
-        d.range = RangeOf::Columns {
-            start: place,
-            end: place + 1,
-        };
-    }
+    d.range = RangeOf::Columns {
+        start: place,
+        end: place.saturating_add(1),
+    };
     Ok(())
 }
 
@@ -535,12 +535,9 @@ fn functions_with_each_fault(rt: HostRuntime) -> Result<(), Fail> {
         assert_eq!(rt; check_function(&f), Err(fault), "{wrong:?}");
     }
     // Each stands beside the next one that can, and is told first.
-    for (place, (wrong, fault)) in table.into_iter().enumerate() {
-        let Some((next, _)) = table.get(place + 1) else {
-            break;
-        };
+    for ((wrong, fault), (next, _)) in table.into_iter().zip(table.into_iter().skip(1)) {
         let mut f = function(alloc)?;
-        make_function(alloc, &mut f, *next)?;
+        make_function(alloc, &mut f, next)?;
         make_function(alloc, &mut f, wrong)?;
         assert_eq!(rt; check_function(&f), Err(fault), "{wrong:?} and {next:?}");
     }
