@@ -1,0 +1,22 @@
+//! Rows of values in packed columns: so many bytes of a column for each row, bits for NULLs, and one
+//! text for all Strings.
+//!
+//! It promises that [`Rows`] are seen as the list of rows that was pushed, cell by cell, into a
+//! [`RowsBuilder`]; that a row counts once all its cells are there, and not before; that after want of
+//! memory the rows and the open row are as they were; and that rows of equal types are equal exactly
+//! where their packs are. A cell is read where it lies, without a copy.
+#![tactic(auto)]
+
+mod bits;
+mod builder;
+mod cell;
+mod column;
+
+mod rows;
+
+pub use bits::Bits;
+pub use builder::RowsBuilder;
+pub use cell::{Cell, cell_of, value_of};
+pub use column::{CellWidth, Column};
+
+pub use rows::Rows;
