@@ -49,7 +49,7 @@ nulls-last true nulls b i is allowed = let at : length nulls + 0 ≡ i = omega (
 nulls-last false nulls true i is allowed = absurd (false≢true (allowed refl))
 nulls-last false nulls false i is allowed = refl
 
-value_from-append : (t : ColType) (b : Bool) (start n : ℕ) (text more : List ℕ) → (is_text t ≡ true → n ≤ length text)
+pub value_from-append : (t : ColType) (b : Bool) (start n : ℕ) (text more : List ℕ) → (is_text t ≡ true → n ≤ length text)
     → value_from t b start n (text ++ more) ≡ value_from t b start n text
 value_from-append type.Str true start n text more fits = refl
 value_from-append t true start n text more fits = refl
@@ -70,9 +70,9 @@ value-text c count i start text more holds below =
 pub room-for : (i count w size : ℕ) → size ≡ count * w → i < count → (i + 1) * w ≤ size
 room-for i count w size is below = rw is (mul-le-mul_right w (omega arith))
 
-number-same : (c : Column) (count limit i n : ℕ) (b : Bool) → Holds c count limit → i < count
+pub number-same : (c : Column) (count limit i n : ℕ) → Holds c count limit → i < count
     → nat_at (width_of c.ty.base) (c.cells ++ kept (width_of c.ty.base) n) i ≡ nat_at (width_of c.ty.base) c.cells i
-number-same c count limit i n b holds below = nat_at-append (width_of c.ty.base) c.cells (kept (width_of c.ty.base) n) i (room-for i count (bytes_in (width_of c.ty.base)) (length c.cells) holds.cells below)
+number-same c count limit i n holds below = nat_at-append (width_of c.ty.base) c.cells (kept (width_of c.ty.base) n) i (room-for i count (bytes_in (width_of c.ty.base)) (length c.cells) holds.cells below)
 
 null-same : (c : Column) (count limit i n : ℕ) (b : Bool) → Holds c count limit → i < count → null_in (grown c n b) i ≡ null_in c i
 unfolding null_in
@@ -83,13 +83,13 @@ pub value-grown : (c : Column) (count limit i n start : ℕ) (b : Bool) (text : 
 unfolding value_in
 value-grown c count limit i n start b text holds below =
     let null = null-same c count limit i n b holds below in
-    let number = number-same c count limit i n b holds below in
+    let number = number-same c count limit i n holds below in
     λ j. value_from c.ty.base (null j) start (number j) text
 
 pub end-grown : (c : Column) (count limit i n start : ℕ) (b : Bool) → Holds c count limit → i < count
     → end_in (grown c n b) i start ≡ end_in c i start
 unfolding end_in
-end-grown c count limit i n start b holds below = ap (λ m. end_from c.ty.base start m) (number-same c count limit i n b holds below)
+end-grown c count limit i n start b holds below = ap (λ m. end_from c.ty.base start m) (number-same c count limit i n holds below)
 
 -- the cell that was added
 
@@ -246,7 +246,7 @@ holds-grown c count limit more x b holds wider fits within = record {
   cells = omega (arith, length-append c.cells (kept (width_of c.ty.base) x), length-kept (width_of c.ty.base) x, holds.cells, step count (bytes_in (width_of c.ty.base)));
   nulls = nulls-more c.ty.nullable c.nulls b count holds.nulls;
   ends = λ i below text. elim (cases_lt i count) as (λ _. nat_at (width_of c.ty.base) (c.cells ++ kept (width_of c.ty.base) x) i ≤ more) [
-    | inl old ↦ subst (λ n. n ≤ more) (sym (number-same c count limit i x b holds old)) (omega (arith, holds.ends i old text, wider))
+    | inl old ↦ subst (λ n. n ≤ more) (sym (number-same c count limit i x holds old)) (omega (arith, holds.ends i old text, wider))
     | inr new ↦ let here : i ≡ count = omega arith in
         subst (λ n. n ≤ more) (sym (ap (λ k. nat_at (width_of c.ty.base) (c.cells ++ kept (width_of c.ty.base) x) k) here ∙ nat_at-last (width_of c.ty.base) c.cells count x holds.cells fits)) (within text)
   ];

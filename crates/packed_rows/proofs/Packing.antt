@@ -1,10 +1,12 @@
 -- Packed columns as rows: what a cell, a row's end and a look-up do to them.
-use Rattle.std.proofs.Common.{◌≡◌, ◌≢◌, ◌<◌, ◌≤◌, ◌+◌, ◌*◌, ◌^◌, ◌∷◌, ◌++◌, ◌∙◌, [], Bool, true, false, ℕ, zero, suc, List, length, take, map, Some, None, Option, refl, sym, ap, subst, arith, inl, inr}
-use Rattle.std.specs.Prelude.{get_or, slice_get, slice_set, ◌⊎◌, IsSome}
+use Rattle.std.proofs.Common.{◌≡◌, ◌≢◌, ◌<◌, ◌≤◌, ◌+◌, ◌*◌, ◌/◌, ◌^◌, ◌∷◌, ◌++◌, ◌∙◌, [], if◌then◌else◌, Bool, true, false, ℕ, zero, suc, List, length, take, map, Some, None, Option, refl, sym, ap, subst, arith, inl, inr}
+use Rattle.std.specs.Prelude.{get_or, sum_by, slice_get, slice_set, ◌⊎◌, IsSome}
 use Rattle.std.specs.Option.{option_map}
+use Rattle.std.specs.List.{AllByRecursion}
 use Rattle.dict_value.specs.declared.value.ColType.{ColType}
 use Rattle.dict_value.specs.declared.value.ColType.TheVariants as type
-use Rattle.std.proofs.lemmas.List.{length-append, length-take-le, map-append, take_all, take_more}
+use Rattle.std.proofs.lemmas.List.{append_assoc, append-nil, length-append, length-take-le, map-append, take_all, take_more}
+use Rattle.std.proofs.lemmas.List.Sums.{sum_by-cons}
 use Rattle.std.proofs.lemmas.Bool.{cases_lt, false≢true}
 use Rattle.std.specs.Option.{unwrap_or}
 use Rattle.std.proofs.lemmas.Option.{none-some, slice_get_past, slice_get_within, slice_get-get_or, slice_get-map}
@@ -15,15 +17,17 @@ use Rattle.std.proofs.Math.Nat.{mul-le-mul_right}
 use Rattle.dict_value.specs.Values.{FitsColumn}
 use Rattle.packed_rows.specs.declared.column.Column.{Column}
 use Rattle.packed_rows.specs.Widths.{bytes_in, limit_of, nat_at, width_of}
-use Rattle.packed_rows.specs.Columns.{Building, Filled, HaveCells, Holds, IsHeld, RowList, between, null_in, number_value, value_from, Packs, building, cell_at, cell_of, end_from, end_in, grow_at, grown, is_null, is_text, number_of, row_end, row_in, rows_in, start_of, text_of_value, value_in}
-use Rattle.packed_rows.proofs.Growing.{end-grown, end-last, from-null, holds-grown, holds-wider, number-fits, number-within, value-grown, value-last, value-text}
+use Rattle.packed_rows.specs.Columns.{AllEndWithin, Filled, HaveCells, Holds, IsHeld, RowList, between, null_in, number_value, value_from, cell_at, cell_of, end_from, end_in, grow_at, grown, is_null, is_text, number_of, row_end, row_in, rows_in, start_of, text_of_value, value_in}
+use Rattle.packed_rows.specs.Packs.{AreColumnsOf, ArePacksOf, Building, IsColumnOf, Packs, StandFor, building, column_bytes, column_nulls, column_size, open_in, packs_size, stored_size, text_of_rows, texts_of, types_of}
+use Rattle.packed_rows.proofs.Packed.{columns-begun, columns-ended, columns-grown, get-front, get-last, text-more, texts-more}
+use Rattle.packed_rows.proofs.Growing.{end-grown, end-last, from-null, holds-grown, holds-wider, number-fits, number-same, number-within, value-grown, value-last, value-text}
 
 -- a column that reads as another in its first rows
-record SameAt (c d : Column) (text more : List ℕ) (n : ℕ) : Type 0 where
-  value : (i s : ℕ) → i < n → value_in d more i s ≡ value_in c text i s
-  ends : (i s : ℕ) → i < n → end_in d i s ≡ end_in c i s
+pub record SameAt (c d : Column) (text more : List ℕ) (n : ℕ) : Type 0 where
+  pub value : (i s : ℕ) → i < n → value_in d more i s ≡ value_in c text i s
+  pub ends : (i s : ℕ) → i < n → end_in d i s ≡ end_in c i s
 
-abbrev AllSame : List Column → List Column → List ℕ → List ℕ → ℕ → Type 0
+abbrev pub AllSame : List Column → List Column → List ℕ → List ℕ → ℕ → Type 0
 AllSame [] [] text more n = Unit {0}
 AllSame [] (d ∷ ds) text more n = ⊥
 AllSame (c ∷ cs) [] text more n = ⊥
@@ -45,12 +49,12 @@ end-same (c ∷ cs) [] text more n same i s below = absurd same
 end-same (c ∷ cs) (d ∷ ds) text more n same i s below =
     ap (λ e. row_end ds i e) (same.0.ends i s below) ∙ end-same cs ds text more n same.1 i (end_in c i s) below
 
-start-same : (cs ds : List Column) (text more : List ℕ) (n : ℕ) → AllSame cs ds text more n → (i : ℕ) → i ≤ n → start_of ds i ≡ start_of cs i
+pub start-same : (cs ds : List Column) (text more : List ℕ) (n : ℕ) → AllSame cs ds text more n → (i : ℕ) → i ≤ n → start_of ds i ≡ start_of cs i
 start-same cs ds text more n same zero within = refl
 start-same cs ds text more n same (suc i) within =
     end-same cs ds text more n same i (start_of ds i) (omega arith) ∙ ap (λ s. row_end cs i s) (start-same cs ds text more n same i (omega arith))
 
-rows-same : (cs ds : List Column) (text more : List ℕ) (n : ℕ) → AllSame cs ds text more n → (m : ℕ) → m ≤ n → rows_in ds more m ≡ rows_in cs text m
+pub rows-same : (cs ds : List Column) (text more : List ℕ) (n : ℕ) → AllSame cs ds text more n → (m : ℕ) → m ≤ n → rows_in ds more m ≡ rows_in cs text m
 rows-same cs ds text more n same zero within = refl
 rows-same cs ds text more n same (suc m) within =
     let before = rows-same cs ds text more n same m (omega arith) in
@@ -79,7 +83,7 @@ grow-same (c ∷ cs) n zero x b text more filled = (
 )
 grow-same (c ∷ cs) n (suc place) x b text more filled = (one-same c (n + 1) n text more filled.0 (omega arith), grow-same cs n place x b text more filled.1)
 
-column-is : (c d : Column) → Some c ≡ Some d → c ≡ d
+pub column-is : (c d : Column) → Some c ≡ Some d → c ≡ d
 column-is c d is = ap (λ (o : Option Column). unwrap_or o c) is
 
 -- the open row has one more value
@@ -115,6 +119,21 @@ grow-filled (c ∷ cs) n zero x limit more b d filled here wider fits within =
 grow-filled (c ∷ cs) n (suc place) x limit more b d filled here wider fits within =
     (holds-wider c (n + 1) limit more filled.0 wider, grow-filled cs n place x limit more b d filled.1 here wider fits within)
 
+-- the texts of the rows end where they did
+grow-settled : (cs : List Column) (n place x limit most : ℕ) (b : Bool) → Filled cs n place limit → AllEndWithin cs n most → AllEndWithin (grow_at cs place x b) n most
+grow-settled [] n place x limit most b filled settled = tt
+grow-settled (c ∷ cs) n zero x limit most b filled settled =
+    (λ i below text. subst (λ m. m ≤ most) (sym (number-same c n limit i x filled.0 below)) (settled.0 i below text), settled.1)
+grow-settled (c ∷ cs) n (suc place) x limit most b filled settled = (settled.0, grow-settled cs n place x limit most b filled.1 settled.1)
+
+row-settled : (cs : List Column) (n limit : ℕ) → Filled cs n (length cs) limit → AllEndWithin cs (n + 1) limit
+row-settled [] n limit filled = tt
+row-settled (c ∷ cs) n limit filled = (filled.0.ends, row-settled cs n limit filled.1)
+
+none-settled : (cs : List Column) (limit : ℕ) → AllEndWithin cs 0 limit
+none-settled [] limit = tt
+none-settled (c ∷ cs) limit = (λ i below text. absurd (omega arith), none-settled cs limit)
+
 grow-types : (cs : List Column) (place x : ℕ) (b : Bool) → map (λ (c : Column). c.ty) (grow_at cs place x b) ≡ map (λ (c : Column). c.ty) cs
 grow-types [] place x b = refl
 grow-types (c ∷ cs) zero x b = refl
@@ -133,23 +152,12 @@ filled-at (c ∷ cs) n (suc place) limit d filled here = filled-at cs n place li
 within-text : (text : List ℕ) (v : Value) → length text ≤ length (text ++ text_of_value v)
 within-text text v = omega (arith, length-append text (text_of_value v))
 
--- one cell more at the open row
-pub cell-packs : (cs : List Column) (text : List ℕ) (n place end : ℕ) (v : Value) (c : Column) → Packs cs text n place → slice_get cs place ≡ Some c → FitsColumn c.ty v
-    → end ≡ length (text ++ text_of_value v) → end < 2 ^ 64
-    → Packs (grow_at cs place (number_of c.ty.base end v) (is_null v)) (text ++ text_of_value v) n (suc place)
-cell-packs cs text n place end v c packs here fits at_end below =
-    let holds = filled-at cs n place (length text) c packs.filled here in
-    let x = number_of c.ty.base end v in
-    let same = grow-same cs n place x (is_null v) text (text_of_value v) packs.filled in
-    let starts = start-same cs (grow_at cs place x (is_null v)) text (text ++ text_of_value v) n same n (omega arith) in
-    record {
-      filled = grow-filled cs n place x (length text) (length (text ++ text_of_value v)) (is_null v) c packs.filled here (within-text text v)
-          (number-fits c.ty.base v c.ty.nullable end fits below) (λ is. subst (λ m. x ≤ m) at_end (number-within c v end fits is));
-      within = omega (arith, slice_get_within cs place c here, grow-length cs place x (is_null v));
-      ends = ap (λ s. row_end (take (suc place) (grow_at cs place x (is_null v))) n s) starts
-          ∙ (grow-end cs n place x (start_of cs n) (is_null v) c here
-          ∙ (end-last c n v end (row_end (take place cs) n (start_of cs n)) text holds fits at_end below packs.ends ∙ at_end));
-    }
+length-row : (cs : List Column) (text : List ℕ) (i s : ℕ) → length (row_in cs text i s) ≡ length cs
+length-row [] text i s = refl
+length-row (c ∷ cs) text i s = omega (arith, length-row cs text i (end_in c i s))
+
+pub open-length : (cs : List Column) (text : List ℕ) (n place : ℕ) → place ≤ length cs → length (row_in (take place cs) text n (start_of cs n)) ≡ place
+open-length cs text n place within = length-row (take place cs) text n (start_of cs n) ∙ length-take-le place cs within
 
 pub cell-building : (cs : List Column) (text : List ℕ) (n place end : ℕ) (v : Value) (c : Column) → Packs cs text n place → slice_get cs place ≡ Some c → FitsColumn c.ty v
     → end ≡ length (text ++ text_of_value v) → end < 2 ^ 64
@@ -170,6 +178,55 @@ cell-building cs text n place end v c packs here fits at_end below =
     ∙ ap (λ (w : Value). row_in (take place cs) text n (start_of cs n) ++ w ∷ []) last) in
     λ j. record { types = types j; rows = rows j; open_row = row j }
 
+-- the texts, with one cell more at the open row
+grown-text : (rows : RowList) (open_row : List Value) (text : List ℕ) (v : Value) → text ≡ text_of_rows (rows ++ open_row ∷ [])
+    → text ++ text_of_value v ≡ text_of_rows (rows ++ (open_row ++ v ∷ []) ∷ [])
+grown-text rows open_row text v is =
+    ap (λ (t : List ℕ). t ++ text_of_value v) (is ∙ text-more rows open_row)
+    ∙ (append_assoc (text_of_rows rows) (texts_of open_row) (text_of_value v)
+    ∙ (ap (λ (t : List ℕ). text_of_rows rows ++ t) (sym (texts-more open_row v)) ∙ sym (text-more rows (open_row ++ v ∷ []))))
+
+grown-end : (rows : RowList) (open_row : List Value) (text : List ℕ) (v : Value) (end : ℕ) → text ≡ text_of_rows (rows ++ open_row ∷ []) → end ≡ length (text ++ text_of_value v)
+    → end ≡ length (text_of_rows rows) + length (texts_of (open_row ++ v ∷ []))
+grown-end rows open_row text v end is at_end =
+    at_end ∙ (ap (λ (t : List ℕ). length t) (grown-text rows open_row text v is ∙ text-more rows (open_row ++ v ∷ [])) ∙ length-append (text_of_rows rows) (texts_of (open_row ++ v ∷ [])))
+
+grown-packs : (cs : List Column) (text : List ℕ) (rows : RowList) (open_row : List Value) (place end : ℕ) (v : Value) (c : Column) → ArePacksOf cs text (rows ++ open_row ∷ [])
+    → slice_get cs place ≡ Some c → length open_row ≡ place → end ≡ length (text ++ text_of_value v)
+    → ArePacksOf (grow_at cs place (number_of c.ty.base end v) (is_null v)) (text ++ text_of_value v) (rows ++ (open_row ++ v ∷ []) ∷ [])
+grown-packs cs text rows open_row place end v c packs here at at_end = record {
+  columns = columns-grown cs 0 place (number_of c.ty.base end v) (is_null v) rows open_row v c here (omega (arith, at))
+      (ap (λ m. number_of c.ty.base m v) (grown-end rows open_row text v end packs.texts at_end)) refl packs.columns;
+  texts = grown-text rows open_row text v packs.texts;
+}
+
+-- one cell more at the open row
+pub cell-packs : (cs : List Column) (text : List ℕ) (n place end : ℕ) (v : Value) (c : Column) → Packs cs text n place → slice_get cs place ≡ Some c → FitsColumn c.ty v
+    → end ≡ length (text ++ text_of_value v) → end < 2 ^ 64
+    → Packs (grow_at cs place (number_of c.ty.base end v) (is_null v)) (text ++ text_of_value v) n (suc place)
+cell-packs cs text n place end v c packs here fits at_end below =
+    let x = number_of c.ty.base end v in
+    let ds = grow_at cs place x (is_null v) in
+    let more = text ++ text_of_value v in
+    let same = grow-same cs n place x (is_null v) text (text_of_value v) packs.filled in
+    let starts = start-same cs ds text more n same n (omega arith) in
+    let built = cell-building cs text n place end v c packs here fits at_end below in
+    let rows = ap (λ (b : Building). b.rows) built in
+    let row = ap (λ (b : Building). b.open_row) built in
+    record {
+      filled = grow-filled cs n place x (length text) (length more) (is_null v) c packs.filled here (within-text text v)
+          (number-fits c.ty.base v c.ty.nullable end fits below) (λ is. subst (λ m. x ≤ m) at_end (number-within c v end fits is));
+      within = omega (arith, slice_get_within cs place c here, grow-length cs place x (is_null v));
+      ends = ap (λ s. row_end (take (suc place) ds) n s) starts
+          ∙ (grow-end cs n place x (start_of cs n) (is_null v) c here
+          ∙ (end-last c n v end (row_end (take place cs) n (start_of cs n)) text (filled-at cs n place (length text) c packs.filled here) fits at_end below packs.ends ∙ at_end));
+      settled = subst (λ s. AllEndWithin ds n s) (sym starts) (grow-settled cs n place x (length text) (start_of cs n) (is_null v) packs.filled packs.settled);
+      start = starts ∙ (packs.start ∙ ap (λ (rs : RowList). length (text_of_rows rs)) (sym rows));
+      packs = subst (λ (rs : RowList). ArePacksOf ds more (rs ++ open_in ds more n (suc place) ∷ [])) (sym rows)
+          (subst (λ (r : List Value). ArePacksOf ds more (rows_in cs text n ++ r ∷ [])) (sym row)
+          (grown-packs cs text (rows_in cs text n) (open_in cs text n place) place end v c packs.packs here (open-length cs text n place packs.within) at_end));
+    }
+
 -- the end of a row
 
 filled-row : (cs : List Column) (n limit : ℕ) → Filled cs n (length cs) limit → Filled cs (n + 1) zero limit
@@ -180,11 +237,21 @@ pub n+1 : (n : ℕ) → n + 1 ≡ suc n
 n+1 n = omega arith
 
 pub row-packs : (cs : List Column) (text : List ℕ) (n : ℕ) → Packs cs text n (length cs) → Packs cs text (suc n) zero
-row-packs cs text n packs = record {
-  filled = subst (λ m. Filled cs m zero (length text)) (n+1 n) (filled-row cs n (length text) packs.filled);
-  within = omega arith;
-  ends = ap (λ (ds : List Column). row_end ds n (start_of cs n)) (sym (take_all (length cs) cs (omega arith))) ∙ packs.ends;
-}
+row-packs cs text n packs =
+    let whole = ap (λ (ds : List Column). row_end ds n (start_of cs n)) (sym (take_all (length cs) cs (omega arith))) ∙ packs.ends in
+    let rows = ap (λ (ds : List Column). rows_in cs text n ++ row_in ds text n (start_of cs n) ∷ []) (sym (take_all (length cs) cs (omega arith))) in
+    let all = subst (λ (rs : RowList). ArePacksOf cs text rs) (sym rows) packs.packs in
+    record {
+      filled = subst (λ m. Filled cs m zero (length text)) (n+1 n) (filled-row cs n (length text) packs.filled);
+      within = omega arith;
+      ends = whole;
+      settled = subst (λ m. AllEndWithin cs m (start_of cs (suc n))) (n+1 n) (subst (λ s. AllEndWithin cs (n + 1) s) (sym whole) (row-settled cs n (length text) packs.filled));
+      start = whole ∙ ap (λ (t : List ℕ). length t) all.texts;
+      packs = record {
+        columns = columns-ended cs 0 (rows_in cs text (suc n)) all.columns;
+        texts = all.texts ∙ sym (text-more (rows_in cs text (suc n)) [] ∙ append-nil (text_of_rows (rows_in cs text (suc n))));
+      };
+    }
 
 pub row-building : (cs : List Column) (text : List ℕ) (n : ℕ)
     → building cs text (suc n) zero
@@ -198,17 +265,6 @@ row-building cs text n =
 pub length-rows : (cs : List Column) (text : List ℕ) (n : ℕ) → length (rows_in cs text n) ≡ n
 length-rows cs text zero = refl
 length-rows cs text (suc n) = omega (arith, length-append (rows_in cs text n) (row_in cs text n (start_of cs n) ∷ []), length-rows cs text n)
-
-get-front : {A : Type 0} (xs ys : List A) (i : ℕ) → i < length xs → slice_get (xs ++ ys) i ≡ slice_get xs i
-get-front [] ys i below = absurd (omega arith)
-get-front (x ∷ xs) ys zero below = refl
-get-front (x ∷ xs) ys (suc i) below = get-front xs ys i (omega arith)
-
-get-last : {A : Type 0} (xs : List A) (y : A) (i : ℕ) → length xs ≡ i → slice_get (xs ++ y ∷ []) i ≡ Some y
-get-last [] y zero is = refl
-get-last [] y (suc i) is = absurd (omega arith)
-get-last (x ∷ xs) y zero is = absurd (omega arith)
-get-last (x ∷ xs) y (suc i) is = get-last xs y i (omega arith)
 
 get-row : (cs : List Column) (text : List ℕ) (n i : ℕ) → i < n → slice_get (rows_in cs text n) i ≡ Some (row_in cs text i (start_of cs i))
 get-row cs text zero i below = absurd (omega arith)
@@ -231,13 +287,6 @@ cell-value cs text n i k c below here =
     ap (λ o. cell_of o k) (get-row cs text n i below) ∙ get-value cs text i (start_of cs i) k c here
 
 -- what the callers of a builder know of it
-
-length-row : (cs : List Column) (text : List ℕ) (i s : ℕ) → length (row_in cs text i s) ≡ length cs
-length-row [] text i s = refl
-length-row (c ∷ cs) text i s = omega (arith, length-row cs text i (end_in c i s))
-
-open-length : (cs : List Column) (text : List ℕ) (n place : ℕ) → place ≤ length cs → length (row_in (take place cs) text n (start_of cs n)) ≡ place
-open-length cs text n place within = length-row (take place cs) text n (start_of cs n) ∙ length-take-le place cs within
 
 pub open-place : (cs : List Column) (text : List ℕ) (n place : ℕ) (b : Building) → building cs text n place ≡ b → Packs cs text n place → length b.open_row ≡ place
 open-place cs text n place b is packs = subst (λ (d : Building). length d.open_row ≡ place) is (open-length cs text n place packs.within)
@@ -349,6 +398,32 @@ fresh-filled [] c filled cells nulls = (
   tt,
 )
 fresh-filled (d ∷ ds) c filled cells nulls = (filled.0, fresh-filled ds c filled.1 cells nulls)
+
+-- a column without a cell
+abbrev pub IsEmpty : Column → Type 0
+IsEmpty c = (c.cells ≡ []) × (c.nulls ≡ [])
+
+pub fresh-empty : (cs : List Column) (c : Column) → AllByRecursion IsEmpty cs → c.cells ≡ [] → c.nulls ≡ [] → AllByRecursion IsEmpty (cs ++ c ∷ [])
+fresh-empty [] c all cells nulls = ((cells, nulls), tt)
+fresh-empty (d ∷ ds) c all cells nulls = (all.0, fresh-empty ds c all.1 cells nulls)
+
+no-nulls : (nullable : Bool) (nulls : List Bool) → nulls ≡ [] → nulls ≡ (if nullable then [] else [])
+no-nulls true nulls is = is
+no-nulls false nulls is = is
+
+empty-columns : (cs : List Column) (k : ℕ) → AllByRecursion IsEmpty cs → AreColumnsOf cs k []
+empty-columns [] k all = tt
+empty-columns (c ∷ cs) k all = (record { cells = all.0.0; nulls = no-nulls c.ty.nullable c.nulls all.0.1 }, empty-columns cs (suc k) all.1)
+
+pub fresh-packs : (cs : List Column) (text : List ℕ) → text ≡ [] → Filled cs 0 0 0 → AllByRecursion IsEmpty cs → Packs cs text 0 0
+fresh-packs cs text none filled all = subst (λ (t : List ℕ). Packs cs t 0 0) (sym none) (record {
+  filled = filled;
+  within = omega arith;
+  ends = refl;
+  start = refl;
+  settled = none-settled cs 0;
+  packs = record { columns = columns-ended cs 0 [] (empty-columns cs 0 all); texts = refl };
+})
 
 pub fresh-types : (cs : List Column) (c : Column) (ts : List AttrType) (i : ℕ) → map (λ (c : Column). c.ty) cs ≡ take i ts → i < length ts → c.ty ≡ get_or ts i c.ty
     → map (λ (c : Column). c.ty) (cs ++ c ∷ []) ≡ take (i + 1) ts
@@ -464,3 +539,70 @@ pub nulls-few : (cs : List Column) (text : List ℕ) (n place : ℕ) (b : Buildi
     → length b.rows < 4294967295 → c.ty.nullable ≡ true → length c.nulls < 4294967295
 nulls-few cs text n place b c is packs here few nullable =
     omega (arith, (filled-at cs n place (length text) c packs.filled here).nulls nullable, length-rows cs text n, ap (λ (d : Building). length d.rows) is, few)
+
+pub stored-is : (cs : List Column) (text : List ℕ) (n : ℕ) (rows : RowList) (types : List AttrType) → Packs cs text n 0 → rows_in cs text n ≡ rows
+    → sum_by (column_size n) types + length text ≡ stored_size types rows
+stored-is cs text n rows types packs is =
+    let count : length rows ≡ n = sym (ap (λ (rs : RowList). length rs) is) ∙ length-rows cs text n in
+    let whole = packs.packs.texts ∙ (text-more (rows_in cs text n) [] ∙ append-nil (text_of_rows (rows_in cs text n))) ∙ ap (λ (rs : RowList). text_of_rows rs) is in
+    λ j. sum_by (column_size (sym count j)) types + length (whole j)
+
+-- laws
+
+types-apart : (c : Column) (cs : List Column) → types_of [] ≡ types_of (c ∷ cs) → ⊥
+types-apart c cs same = absurd (omega (arith, ap (λ (ts : List AttrType). length ts) same))
+
+head-type : (c d : Column) (cs ds : List Column) → types_of (c ∷ cs) ≡ types_of (d ∷ ds) → c.ty ≡ d.ty
+head-type c d cs ds same = cc
+
+tail-types : (c d : Column) (cs ds : List Column) → types_of (c ∷ cs) ≡ types_of (d ∷ ds) → types_of cs ≡ types_of ds
+tail-types c d cs ds same = cc
+
+one-column : (c d : Column) (k : ℕ) (rows : RowList) → IsColumnOf c k rows → IsColumnOf d k rows → c.ty ≡ d.ty → c ≡ d
+one-column c d k rows is are same =
+    let cells : c.cells ≡ d.cells = is.cells ∙ ((λ j. column_bytes (same j).base k 0 rows) ∙ sym are.cells) in
+    let nulls : c.nulls ≡ d.nulls = is.nulls ∙ ((λ j. if (same j).nullable then column_nulls k rows else []) ∙ sym are.nulls) in
+    λ j. record { ty = same j; cells = cells j; nulls = nulls j }
+
+one-list : (cs ds : List Column) (k : ℕ) (rows : RowList) → AreColumnsOf cs k rows → AreColumnsOf ds k rows → types_of cs ≡ types_of ds → cs ≡ ds
+one-list [] [] k rows is are same = refl
+one-list [] (d ∷ ds) k rows is are same = absurd (types-apart d ds same)
+one-list (c ∷ cs) [] k rows is are same = absurd (types-apart c cs (sym same))
+one-list (c ∷ cs) (d ∷ ds) k rows is are same =
+    let first = one-column c d k rows is.0 are.0 (head-type c d cs ds same) in
+    let rest = one-list cs ds (suc k) rows is.1 are.1 (tail-types c d cs ds same) in
+    λ j. first j ∷ rest j
+
+-- the columns and the text of rows alone
+pub whole-packs : (cs : List Column) (text : List ℕ) (n : ℕ) (rows : RowList) → StandFor cs text n rows → ArePacksOf cs text rows
+whole-packs cs text n rows stand = subst (λ (rs : RowList). ArePacksOf cs text rs) stand.read (record {
+  columns = columns-begun cs 0 (rows_in cs text n) stand.packs.packs.columns;
+  texts = stand.packs.packs.texts ∙ (text-more (rows_in cs text n) [] ∙ append-nil (text_of_rows (rows_in cs text n)));
+})
+
+pub equal-packs : (cs ds : List Column) (text more : List ℕ) (n m : ℕ) (rows : RowList) → StandFor cs text n rows → StandFor ds more m rows → types_of cs ≡ types_of ds
+    → (cs ≡ ds) × (text ≡ more)
+equal-packs cs ds text more n m rows is are same =
+    let first = whole-packs cs text n rows is in
+    let other = whole-packs ds more m rows are in
+    (one-list cs ds 0 rows first.columns other.columns same, first.texts ∙ sym other.texts)
+
+null-size : (nullable : Bool) (nulls old : List Bool) (n : ℕ) → (nullable ≡ true → length nulls ≡ n) → nulls ≡ (if nullable then old else [])
+    → (length nulls + 7) / 8 ≡ (if nullable then (n + 7) / 8 else 0)
+null-size true nulls old n is same = ap (λ m. (m + 7) / 8) (is refl)
+null-size false nulls old n is same = ap (λ (bs : List Bool). (length bs + 7) / 8) same
+
+columns-size : (cs : List Column) (k n limit : ℕ) (rows : RowList) → Filled cs n zero limit → AreColumnsOf cs k rows
+    → sum_by (λ (c : Column). length c.cells + (length c.nulls + 7) / 8) cs ≡ sum_by (column_size n) (types_of cs)
+columns-size [] k n limit rows filled are = refl
+columns-size (c ∷ cs) k n limit rows filled are =
+    let bits = null-size c.ty.nullable c.nulls (column_nulls k rows) n filled.0.nulls are.0.nulls in
+    let size = λ (d : Column). length d.cells + (length d.nulls + 7) / 8 in
+    sum_by-cons size c cs ∙ (omega (arith, filled.0.cells, bits, columns-size cs (suc k) n limit rows filled.1 are.1) ∙ sym (sum_by-cons (column_size n) c.ty (types_of cs)))
+
+pub whole-size : (cs : List Column) (text : List ℕ) (n : ℕ) (rows : RowList) → StandFor cs text n rows → packs_size cs text ≡ stored_size (types_of cs) rows
+whole-size cs text n rows stand =
+    let are = whole-packs cs text n rows stand in
+    let count : length rows ≡ n = sym (ap (λ (rs : RowList). length rs) stand.read) ∙ length-rows cs text n in
+    let columns = columns-size cs 0 n (length text) rows stand.packs.filled are.columns in
+    (λ j. columns j + length (are.texts j)) ∙ ap (λ m. sum_by (column_size m) (types_of cs) + length (text_of_rows rows)) (sym count)

@@ -71,36 +71,27 @@ abbrev pub rows_in : List Column → List ℕ → ℕ → List (List Value)
 rows_in cs text zero = []
 rows_in cs text (suc n) = rows_in cs text n ++ row_in cs text n (start_of cs n) ∷ []
 
+-- the first texts of a column end within so many bytes
+abbrev pub EndWithin : Column → ℕ → ℕ → Type 0
+EndWithin c count limit =
+    (i : ℕ) → i < count → is_text c.ty.base ≡ true → nat_at (width_of c.ty.base) c.cells i ≤ limit
+
 -- the column has so many cells, and its texts end within so many bytes
 pub record Holds (c : Column) (count : ℕ) (limit : ℕ) : Type 0 where
   pub cells : length c.cells ≡ count * bytes_in (width_of c.ty.base)
   pub nulls : c.ty.nullable ≡ true → length c.nulls ≡ count
-  pub ends : (i : ℕ) → i < count → is_text c.ty.base ≡ true → nat_at (width_of c.ty.base) c.cells i ≤ limit
+  pub ends : EndWithin c count limit
+
+-- the first texts of each column end within so many bytes
+abbrev pub AllEndWithin : List Column → ℕ → ℕ → Type 0
+AllEndWithin [] count limit = Unit {0}
+AllEndWithin (c ∷ cs) count limit = EndWithin c count limit × AllEndWithin cs count limit
 
 -- the first columns, as many as the second number, have one cell more than the number of rows
 abbrev pub Filled : List Column → ℕ → ℕ → ℕ → Type 0
 Filled [] rows place limit = Unit {0}
 Filled (c ∷ cs) rows zero limit = Holds c rows limit × Filled cs rows zero limit
 Filled (c ∷ cs) rows (suc place) limit = Holds c (rows + 1) limit × Filled cs rows place limit
-
--- the columns hold so many rows, and so many cells of a row that is still open
-pub record Packs (cs : List Column) (text : List ℕ) (rows place : ℕ) : Type 0 where
-  pub filled : Filled cs rows place (length text)
-  pub within : place ≤ length cs
-  pub ends : row_end (take place cs) rows (start_of cs rows) ≡ length text
-
--- what a builder is: the types of its columns, its rows, and the first values of a row that is still open
-pub record Building : Type 0 where
-  pub types : List AttrType
-  pub rows : List (List Value)
-  pub open_row : List Value
-
-abbrev pub building : List Column → List ℕ → ℕ → ℕ → Building
-building cs text rows place = record {
-  types = map (λ (c : Column). c.ty) cs;
-  rows = rows_in cs text rows;
-  open_row = row_in (take place cs) text rows (start_of cs rows);
-}
 
 -- the value at a row and a column
 abbrev pub cell_of : Option (List Value) → ℕ → Option Value
@@ -165,3 +156,28 @@ HaveCells (c ∷ cs) count = (count * bytes_in (width_of c.ty.base) ≤ length c
 -- the column's cell at a place can be read
 abbrev pub IsHeld : Column → ℕ → ℕ → Type 0
 IsHeld c place limit = (count : ℕ) × Holds c count limit × (place < count)
+
+-- the column's first cells
+abbrev pub cut : ℕ → Column → Column
+cut count c = record {
+  ty = c.ty;
+  cells = take (count * bytes_in (width_of c.ty.base)) c.cells;
+  nulls = if c.ty.nullable then take count c.nulls else c.nulls;
+}
+
+-- the columns, the first of them cut to so many cells
+abbrev pub cut_front : ℕ → ℕ → List Column → List Column
+cut_front count place [] = []
+cut_front count zero (c ∷ cs) = c ∷ cs
+cut_front count (suc place) (c ∷ cs) = cut count c ∷ cut_front count place cs
+
+-- the column has at least so many cells
+pub record HasCells (c : Column) (count : ℕ) : Type 0 where
+  pub cells : count * bytes_in (width_of c.ty.base) ≤ length c.cells
+  pub nulls : c.ty.nullable ≡ true → count ≤ length c.nulls
+
+-- the first columns have
+abbrev pub FrontHasCells : List Column → ℕ → ℕ → Type 0
+FrontHasCells [] count place = Unit {0}
+FrontHasCells (c ∷ cs) count zero = Unit {0}
+FrontHasCells (c ∷ cs) count (suc place) = HasCells c count × FrontHasCells cs count place

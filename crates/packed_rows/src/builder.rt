@@ -4,13 +4,13 @@ ghost use Rattle.std.specs.Int.{cast_unsigned};
 ghost use Rattle.dict_value.specs.declared.value.AttrType.{AttrType};
 ghost use Rattle.dict_value.specs.Values.{FitsColumn};
 ghost use Rattle.packed_rows.specs.Cells.{meaning};
-ghost use Rattle.packed_rows.specs.Columns.{grown, is_null, is_text, number_of, signed_width, text_of_value};
+ghost use Rattle.packed_rows.specs.Columns.{FrontHasCells, HasCells, cut, cut_front, grown, is_null, is_text, number_of, signed_width, text_of_value};
 ghost use Rattle.packed_rows.specs.Widths.{limit_of, width_of};
 
 use crate::bits::Bits;
 use crate::cell::Cell;
-use crate::column::{Column, push_number, width_of};
-use crate::rows::Rows;
+use crate::column::{Column, bytes_in, push_number, width_of};
+use crate::rows::{Rows, row_start};
 use dict_value::{AttrType, Bytes, ColType, NoMemory};
 use std::alloc::Global;
 use std::marker::Model;
@@ -25,7 +25,7 @@ pub struct RowsBuilder {
 }
 
 impl Model for RowsBuilder {
-    ghost use Rattle.packed_rows.specs.Columns.{Building, Packs, building};
+    ghost use Rattle.packed_rows.specs.Packs.{Building, Packs, building};
 
     ghost Value = { Building };
 
@@ -127,8 +127,31 @@ fn grow(column: &mut Column, n: u128, null: bool) -> Result<(), NoMemory>
     Ok(())
 }
 
+/// Keeps a column's first cells.
+fn cut(column: &mut Column, count: usize)
+    requires { HasCells column.old count }
+    ensures { column.new ≡ cut count column.old }
+{
+    let _have = column.cells.len();
+    column.cells.truncate(count * bytes_in(width_of(column.ty.base)));
+    if column.ty.nullable {
+        column.nulls.truncate(count);
+    }
+}
+
+/// Keeps the first cells of the first columns.
+fn cut_front(columns: &mut Vec<Column>, count: usize, before: usize)
+    requires within { before ≤ length columns.old.items }
+    requires cells { FrontHasCells columns.old.items count before }
+    ensures { columns.new.items ≡ cut_front count before columns.old.items }
+{
+    for place in 0..before {
+        cut(&mut columns[place], count);
+    }
+}
+
 impl RowsBuilder {
-    ghost use Rattle.packed_rows.specs.Columns.{building};
+    ghost use Rattle.packed_rows.specs.Packs.{building};
 
     /// No rows of columns of these types.
     pub fn new(alloc: Global, types: &[AttrType]) -> Result<RowsBuilder, NoMemory>
@@ -176,6 +199,16 @@ impl RowsBuilder {
         }
         self.place += 1;
         Ok(())
+    }
+
+    /// Drops the values of the open row. The rows stay as they are.
+    pub fn drop_open_row(&mut self)
+        ensures { self.new ≡ record self.old { open_row = [] } }
+    {
+        let start = row_start(self.columns.as_slice(), self.rows);
+        self.text.truncate(start as usize);
+        cut_front(&mut self.columns, self.rows, self.place);
+        self.place = 0;
     }
 
     /// Ends the open row, which has a value for each column.

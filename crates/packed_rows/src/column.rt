@@ -39,6 +39,22 @@ pub(crate) fn width_of(t: ColType) -> CellWidth
     }
 }
 
+/// How many bytes a cell of a width takes.
+#[inline]
+#[tactic(auto, unfolding(crate::specs::Widths::bytes_in))]
+pub(crate) fn bytes_in(width: CellWidth) -> usize
+    ensures value { result ≡ bytes_in width }
+    ensures small { result ≤ 16 }
+{
+    match width {
+        CellWidth::One => 1,
+        CellWidth::Two => 2,
+        CellWidth::Four => 4,
+        CellWidth::Eight => 8,
+        CellWidth::Sixteen => 16,
+    }
+}
+
 /// Appends the bytes of a number; after `NoMemory` they are as they were.
 #[inline]
 #[tactic(auto, unfolding(crate::specs::Widths::kept, crate::specs::Widths::limit_of))]

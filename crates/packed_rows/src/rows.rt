@@ -1,12 +1,14 @@
 // Whole rows, which no call changes.
-ghost use Rattle.std.specs.Prelude.{◌≡◌, ◌<◌, ◌≤◌, ◌+◌, ◌*◌, true, length, take};
+ghost use Rattle.std.specs.Prelude.{◌≡◌, ◌<◌, ◌≤◌, ◌+◌, ◌*◌, true, length, min, take};
+ghost use Rattle.packed_rows.specs.Packs.{column_size, stored_size};
 ghost use Rattle.packed_rows.specs.Cells.{meaning};
 ghost use Rattle.packed_rows.specs.Columns.{HaveCells, IsHeld, between, is_text, number_value, end_in, null_in, row_end, start_of, value_in};
 ghost use Rattle.packed_rows.specs.Widths.{bytes_in, limit_of, nat_at, width_of};
 
+use crate::bits::bytes_for;
 use crate::cell::Cell;
-use crate::column::{CellWidth, Column, number_at, width_of};
-use dict_value::{Bytes, ColType};
+use crate::column::{CellWidth, Column, bytes_in, number_at, width_of};
+use dict_value::{AttrType, Bytes, ColType};
 use std::marker::Model;
 
 /// Rows of values.
@@ -18,7 +20,8 @@ pub struct Rows {
 }
 
 impl Model for Rows {
-    ghost use Rattle.packed_rows.specs.Columns.{Packs, RowList, rows_in};
+    ghost use Rattle.packed_rows.specs.Columns.{RowList, rows_in};
+    ghost use Rattle.packed_rows.specs.Packs.{Packs};
 
     ghost Value = { RowList };
 
@@ -32,12 +35,27 @@ impl Rows {
     ghost use Rattle.packed_rows.specs.Cells.{meaning};
     ghost use Rattle.std.specs.Option.{option_map};
     ghost use Rattle.packed_rows.specs.Columns.{cell_at};
+    ghost use Rattle.packed_rows.specs.Packs.{stored_size};
+    ghost use Rattle.std.specs.Prelude.{min};
 
     /// How many rows there are.
     pub fn len(&self) -> usize
         ensures { result ≡ length self.now }
     {
         self.count
+    }
+
+    /// How many bytes the rows take by these types, which are those of their columns: for each column
+    /// its cells and, where it may hold NULL, a bit for each row; and all texts once. At most the
+    /// greatest number of 64 bits is told.
+    pub fn stored(&self, types: &[AttrType]) -> u64
+        ensures { result ≡ min (stored_size types.now self.now) u64.MAX }
+    {
+        let mut size = self.text.len() as u64;
+        for ty in types {
+            size = size.saturating_add(column_size(self.count, *ty));
+        }
+        size
     }
 
     /// The value at a row and a column, if they exist.
@@ -67,6 +85,15 @@ impl Rows {
             _ => cell_in(here, self.text.as_slice(), place, 0),
         }
     }
+}
+
+/// How many bytes so many rows take in a column, up to the greatest number of 64 bits.
+fn column_size(count: usize, ty: AttrType) -> u64
+    ensures { result ≡ min (column_size count ty) u64.MAX }
+{
+    let cells = (count as u64).saturating_mul(bytes_in(width_of(ty.base)) as u64);
+    let bits = if ty.nullable { bytes_for(count) as u64 } else { 0 };
+    cells.saturating_add(bits)
 }
 
 /// Whether the cell at a row is NULL.
@@ -140,8 +167,8 @@ fn text_start(columns: &[Column], column: usize, place: usize) -> u64
 }
 
 /// Where the texts of a row start.
-fn row_start(columns: &[Column], place: usize) -> u64
-    requires { HaveCells columns.now (place + 1) }
+pub(crate) fn row_start(columns: &[Column], place: usize) -> u64
+    requires { HaveCells columns.now place }
     ensures { result ≡ start_of columns.now place }
 {
     if place == 0 {
