@@ -118,9 +118,10 @@ whole-value c n most i s text within ends below = cut-text c.ty.base (null_in c 
 cut-same : (cs : List Column) (n place limit most : ℕ) (text : List ℕ) → Filled cs n place limit → AllEndWithin cs n most → most ≤ length text
     → AllSame cs (cut_front n place cs) text (take most text) n
 cut-same [] n place limit most text filled settled within = tt
-cut-same (c ∷ cs) n zero limit most text filled settled within =
-    (record { value = λ i s below. whole-value c n most i s text within settled.0 below; ends = λ i s below. refl },
-      subst (λ (ds : List Column). AllSame cs ds text (take most text) n) (cut-none cs n) (cut-same cs n zero limit most text filled.1 settled.1 within))
+cut-same (c ∷ cs) n zero limit most text filled settled within = (
+  record { value = λ i s below. whole-value c n most i s text within settled.0 below; ends = λ i s below. refl },
+  subst (λ (ds : List Column). AllSame cs ds text (take most text) n) (cut-none cs n) (cut-same cs n zero limit most text filled.1 settled.1 within),
+)
 cut-same (c ∷ cs) n (suc place) limit most text filled settled within = (
   record {
     value = λ i s below. cut-value c n limit most i s text filled.0 within settled.0 below;
@@ -135,9 +136,10 @@ cut-nulls false nulls n size is = absurd (false≢true is)
 
 cut-filled : (cs : List Column) (n place limit most : ℕ) → Filled cs n place limit → AllEndWithin cs n most → Filled (cut_front n place cs) n zero most
 cut-filled [] n place limit most filled settled = tt
-cut-filled (c ∷ cs) n zero limit most filled settled =
-    (record { cells = filled.0.cells; nulls = filled.0.nulls; ends = settled.0 },
-      subst (λ (ds : List Column). Filled ds n zero most) (cut-none cs n) (cut-filled cs n zero limit most filled.1 settled.1))
+cut-filled (c ∷ cs) n zero limit most filled settled = (
+  record { cells = filled.0.cells; nulls = filled.0.nulls; ends = settled.0 },
+  subst (λ (ds : List Column). Filled ds n zero most) (cut-none cs n) (cut-filled cs n zero limit most filled.1 settled.1),
+)
 cut-filled (c ∷ cs) n (suc place) limit most filled settled = (
   record {
     cells = length-take-le (n * bytes_in (width_of c.ty.base)) c.cells (longer c n limit filled.0);

@@ -46,7 +46,7 @@ bytes-more t k start (r ∷ rows) row =
     let first = cell_bytes t (start + length (texts_of (take (suc k) r))) (slice_get r k) in
     let next = start + length (texts_of r) in
     let at : next + length (text_of_rows rows) + length (texts_of (take (suc k) row)) ≡ start + length (text_of_rows (r ∷ rows)) + length (texts_of (take (suc k) row))
-        = omega (arith, ap (λ (t : List ℕ). length t) (flat_map-cons texts_of r rows), length-append (texts_of r) (text_of_rows rows)) in
+    = omega (arith, ap (λ (t : List ℕ). length t) (flat_map-cons texts_of r rows), length-append (texts_of r) (text_of_rows rows)) in
     ap (λ (bs : List ℕ). first ++ bs) (bytes-more t k next rows row)
     ∙ (sym (append_assoc first (column_bytes t k next rows) (cell_bytes t (next + length (text_of_rows rows) + length (texts_of (take (suc k) row))) (slice_get row k)))
     ∙ ap (λ n. (first ++ column_bytes t k next rows) ++ cell_bytes t n (slice_get row k)) at)

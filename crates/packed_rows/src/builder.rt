@@ -70,13 +70,7 @@ fn number_of(cell: &Cell<'_>, ty: AttrType, end: u64) -> u128
         Cell::V4(n) => u128::from(n),
         Cell::V6(n) => n,
         Cell::Dec(z) => z.cast_unsigned(),
-        Cell::Null => {
-            if is_text(ty.base) {
-                u128::from(end)
-            } else {
-                0
-            }
-        }
+        Cell::Null => { if is_text(ty.base) { u128::from(end) } else { 0 } }
     }
 }
 
@@ -133,7 +127,9 @@ fn cut(column: &mut Column, count: usize)
     ensures { column.new ≡ cut count column.old }
 {
     let _have = column.cells.len();
-    column.cells.truncate(count * bytes_in(width_of(column.ty.base)));
+    column
+        .cells
+        .truncate(count * bytes_in(width_of(column.ty.base)));
     if column.ty.nullable {
         column.nulls.truncate(count);
     }

@@ -13,6 +13,8 @@ mod cell;
 mod column;
 pub mod laws;
 mod rows;
+#[cfg(test)]
+mod tests;
 
 pub use bits::Bits;
 pub use builder::RowsBuilder;

@@ -92,7 +92,11 @@ fn column_size(count: usize, ty: AttrType) -> u64
     ensures { result ≡ min (column_size count ty) u64.MAX }
 {
     let cells = (count as u64).saturating_mul(bytes_in(width_of(ty.base)) as u64);
-    let bits = if ty.nullable { bytes_for(count) as u64 } else { 0 };
+    let bits = if ty.nullable {
+        bytes_for(count) as u64
+    } else {
+        0
+    };
     cells.saturating_add(bits)
 }
 
