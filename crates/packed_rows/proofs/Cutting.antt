@@ -1,8 +1,8 @@
 -- What is left where the open row is dropped.
-use Rattle.std.proofs.Common.{◌≡◌, ◌<◌, ◌≤◌, ◌+◌, ◌*◌, ◌∷◌, ◌++◌, ◌∙◌, ◌&&◌, [], if◌then◌else◌, Bool, true, false, ℕ, zero, suc, List, length, take, drop, map, Some, None, refl, sym, ap, subst, arith, inl, inr}
+use Rattle.std.proofs.Common.{◌≡◌, ◌<◌, ◌≤◌, ◌+◌, ◌*◌, ◌∷◌, ◌++◌, ◌∙◌, ◌&&◌, [], if◌then◌else◌, Bool, true, false, ℕ, zero, suc, List, length, take, drop, Some, refl, sym, ap, subst, arith}
 use Rattle.std.specs.Prelude.{get_or, slice_get, slice_set, slice_index_or}
 use Rattle.std.proofs.lemmas.List.{append-nil, get_or-take, length-append, length-take-le, take-append-drop, take-append-le, take_all}
-use Rattle.std.proofs.lemmas.Bool.{cases_lt, false≢true}
+use Rattle.std.proofs.lemmas.Bool.{false≢true}
 use Rattle.std.proofs.lemmas.Option.{none-some, slice_get-get_or}
 use Rattle.std.proofs.Math.Nat.{add-mul}
 use Rattle.dict_value.specs.declared.value.ColType.{ColType}
@@ -10,12 +10,12 @@ use Rattle.dict_value.specs.declared.value.Value.{Value}
 use Rattle.packed_rows.specs.declared.column.Column.{Column}
 use Rattle.packed_rows.specs.declared.column.CellWidth.{CellWidth}
 use Rattle.packed_rows.specs.Widths.{bytes_in, kept, nat_at, width_of}
-use Rattle.packed_rows.specs.Columns.{AllEndWithin, EndWithin, Filled, FrontHasCells, HasCells, HaveCells, Holds, cut, cut_front, end_from, end_in, is_text, null_in, row_end, row_in, rows_in, start_of, value_from, value_in, RowList}
-use Rattle.packed_rows.specs.Packs.{AreColumnsOf, ArePacksOf, Building, IsColumnOf, Packs, building, cell_bytes, column_bytes, column_nulls, null_bits, open_in, text_of_rows, texts_of, types_of}
+use Rattle.packed_rows.specs.Columns.{AllEndWithin, EndWithin, Filled, FrontHasCells, HasCells, HaveCells, Holds, cut, cut_front, end_from, end_in, is_text, null_in, rows_in, start_of, value_from, value_in, RowList}
+use Rattle.packed_rows.specs.Packs.{AreColumnsOf, ArePacksOf, IsColumnOf, Packs, building, column_bytes, column_nulls, open_in, text_of_rows, texts_of, types_of}
 use Rattle.packed_rows.proofs.Bytes.{length-kept, nat_at-append}
 use Rattle.packed_rows.proofs.Growing.{room-for, value_from-append}
-use Rattle.packed_rows.proofs.Packed.{begun-cells, begun-nulls, columns-begun, columns-ended, ended-column, open-cells, open-nulls, text-more}
-use Rattle.packed_rows.proofs.Packing.{AllSame, SameAt, column-is, n+1, open-length, rows-same, start-same}
+use Rattle.packed_rows.proofs.Packed.{begun-cells, begun-nulls, columns-ended, open-cells, open-nulls, text-more}
+use Rattle.packed_rows.proofs.Packing.{AllSame, column-is, n+1, open-length, rows-same, start-same}
 
 -- the loop over the columns
 

@@ -1,7 +1,6 @@
 -- How the packs of rows grow by a value, by the end of a row, and shrink by an open row.
-use Rattle.std.proofs.Common.{◌≡◌, ◌<◌, ◌≤◌, ◌+◌, ◌*◌, ◌∷◌, ◌++◌, ◌∙◌, [], Bool, true, false, ℕ, zero, suc, List, length, take, map, Some, None, Option, if◌then◌else◌, refl, sym, ap, subst, arith, inl, inr}
+use Rattle.std.proofs.Common.{◌≡◌, ◌<◌, ◌≤◌, ◌+◌, ◌∷◌, ◌++◌, ◌∙◌, [], Bool, true, false, ℕ, zero, suc, List, length, take, Some, if◌then◌else◌, refl, sym, ap, arith, inl, inr}
 use Rattle.std.specs.Prelude.{slice_get, ◌⊎◌}
-use Rattle.std.specs.List.{flat_map}
 use Rattle.std.proofs.lemmas.List.{append_assoc, append-nil, length-append, take_all, take-append-le}
 use Rattle.std.proofs.lemmas.List.Concat.{flat_map-cons}
 use Rattle.std.proofs.lemmas.Grind.{flat_map-append}
@@ -9,7 +8,7 @@ use Rattle.std.proofs.lemmas.Option.{none-some, slice_get_past}
 use Rattle.dict_value.specs.declared.value.ColType.{ColType}
 use Rattle.dict_value.specs.declared.value.Value.{Value}
 use Rattle.packed_rows.specs.declared.column.Column.{Column}
-use Rattle.packed_rows.specs.Widths.{bytes_in, kept, width_of}
+use Rattle.packed_rows.specs.Widths.{kept, width_of}
 use Rattle.packed_rows.specs.Columns.{grow_at, grown, is_null, number_of, text_of_value}
 use Rattle.packed_rows.specs.Packs.{AreColumnsOf, IsColumnOf, cell_bytes, column_bytes, column_nulls, null_bits, text_of_rows, texts_of}
 

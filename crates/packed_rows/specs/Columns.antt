@@ -1,7 +1,6 @@
 -- The list of rows that packed columns are.
-use Rattle.std.specs.Prelude.{◌≡◌, ◌<◌, ◌≤◌, ◌+◌, ◌-◌, ◌*◌, ◌∷◌, ◌++◌, ◌&&◌, [], if◌then◌else◌, Bool, true, false, ℕ, zero, suc, List, length, take, drop, map, Option, Some, None, slice_get, slice_index_or}
+use Rattle.std.specs.Prelude.{◌≡◌, ◌<◌, ◌≤◌, ◌+◌, ◌-◌, ◌*◌, ◌∷◌, ◌++◌, ◌&&◌, [], if◌then◌else◌, Bool, true, false, ℕ, zero, suc, List, length, take, drop, Option, Some, None, slice_get, slice_index_or}
 use Rattle.std.specs.Int.{Width, w8, w16, w32, w64, w128, cast_signed, cast_unsigned}
-use Rattle.dict_value.specs.declared.value.AttrType.{AttrType}
 use Rattle.dict_value.specs.declared.value.ColType.{ColType}
 use Rattle.dict_value.specs.declared.value.ColType.TheVariants as type
 use Rattle.dict_value.specs.declared.value.Value.{Value}

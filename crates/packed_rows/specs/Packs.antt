@@ -1,5 +1,5 @@
 -- That columns and a text are the packs of rows, and what a builder of them is seen as.
-use Rattle.std.specs.Prelude.{◌≡◌, ◌≤◌, ◌+◌, ◌*◌, ◌/◌, ◌∷◌, ◌++◌, [], if◌then◌else◌, Bool, ℕ, zero, suc, List, length, take, map, sum_by, Option, Some, None, slice_get}
+use Rattle.std.specs.Prelude.{◌≡◌, ◌≤◌, ◌+◌, ◌*◌, ◌/◌, ◌∷◌, ◌++◌, [], if◌then◌else◌, Bool, ℕ, suc, List, length, take, map, sum_by, Option, Some, None, slice_get}
 use Rattle.std.specs.List.{flat_map}
 use Rattle.dict_value.specs.declared.value.AttrType.{AttrType}
 use Rattle.dict_value.specs.declared.value.ColType.{ColType}

@@ -1,9 +1,5 @@
-use Rattle.std.proofs.Common.{◌≡◌, ◌<◌, ◌∙◌, Some, length, suc, sym, ap, refl, arith}
-use Rattle.std.specs.Prelude.{slice_get}
-use Rattle.std.proofs.lemmas.Option.{slice_get_read}
-use Rattle.packed_rows.specs.declared.column.Column.{Column}
-use Rattle.packed_rows.specs.Columns.{cut_front}
-use Rattle.packed_rows.proofs.Cutting.{cut-none, cut-read, cut-read-has, cut-step}
+use Rattle.std.proofs.Common.{sym, arith}
+use Rattle.packed_rows.proofs.Cutting.{cut-none, cut-read-has, cut-step}
 use Rattle.packed_rows.proofs.builder.cut_front.Goals as goal
 
 pub loop-place-init : goal.loop-place-init
