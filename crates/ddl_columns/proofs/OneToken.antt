@@ -129,7 +129,7 @@ zone_law = one_token zone_at zone refl
 
 literal_more : (b c d : Bool) (text : List ℕ) (place : ℕ) (ts : List Token)
     → cond {A = Read Field} b (cond {A = Read (List ℕ)} b (read_as text ts) (Err (Unexpected place)) >>= λ x. read_as (field.Text x.0) x.1)
-        (cond c (cond {A = Read (Unit {0})} c (read_as (tt {0}) ts) (Err (Unexpected place)) >>= λ x. read_as field.Null x.1) (cond {A = Read (List ℕ)} d (read_as text ts) (Err (Unexpected place)) >>= λ x. read_as (field.Text x.0) x.1))
+    (cond c (cond {A = Read (Unit {0})} c (read_as (tt {0}) ts) (Err (Unexpected place)) >>= λ x. read_as field.Null x.1) (cond {A = Read (List ℕ)} d (read_as text ts) (Err (Unexpected place)) >>= λ x. read_as (field.Text x.0) x.1))
     ≡ (cond {A = Result Field SyntaxFault} b (Ok (field.Text text)) (cond c (Ok field.Null) (cond d (Ok (field.Text text)) (Err (Unexpected place)))) >>= λ x. read_as x ts)
 literal_more true c d text place ts = refl
 literal_more false true d text place ts = refl

@@ -1,6 +1,5 @@
 // Types of columns and arguments.
-ghost use Rattle.std.specs.Prelude.{◌≡◌, ◌++◌, ◌<◌, ◌≤◌, length, List, Err, IfOk, OnOk};
-ghost use Rattle.dict_value.specs.Memory.{UnlessNoMemory};
+ghost use Rattle.std.specs.Prelude.{◌≡◌, ◌≢◌, ◌++◌, ◌<◌, ◌≤◌, length, List, Err, IfOk, OnOk};
 ghost use Rattle.dict_value.specs.declared.value.AttrType.{AttrType};
 ghost use Rattle.ddl_tokens.specs.Judged.{Judged, IsFirstFault, JudgedStops, answer, stands};
 ghost use Rattle.ddl_tokens.specs.Laws.{Begins, IfSyntax, first};
@@ -118,6 +117,7 @@ fn type_named(r: &Reader<'_>) -> Option<TypeName>
 #[tactic(auto, using(ddl_tokens::proofs::Going::name_goes_on), unfolding(crate::specs::Reading::named_at))]
 fn named(r: &mut Reader<'_>) -> Result<(TypeName, u32), ReadFault>
     ensures value { Gives (λ named. named) result r.new (named_at r.old) }
+    ensures takes_none { result ≢ Err fault.NoMemory }
     ensures shorter { OnOk result (length r.new < length r.old) }
 {
     if !r.sees_name() {
@@ -135,6 +135,7 @@ fn named(r: &mut Reader<'_>) -> Result<(TypeName, u32), ReadFault>
 #[tactic(auto, unfolding(crate::specs::Reading::base_named_at))]
 fn base_named(r: &mut Reader<'_>) -> Result<(BaseName, u32), ReadFault>
     ensures value { Gives (λ named. named) result r.new (base_named_at r.old) }
+    ensures takes_none { result ≢ Err fault.NoMemory }
     ensures shorter { OnOk result (length r.new < length r.old) }
 {
     let (name, place) = named(r)?;
@@ -147,7 +148,8 @@ fn base_named(r: &mut Reader<'_>) -> Result<(BaseName, u32), ReadFault>
 /// No type is followed by a bracket that isn't its own.
 #[tactic(auto, unfolding(crate::specs::Reading::ended_at))]
 fn ended(r: &Reader<'_>) -> Result<(), ReadFault>
-    ensures { Gives (λ _. tt) result r.now (ended_at r.now) }
+    ensures value { Gives (λ _. tt) result r.now (ended_at r.now) }
+    ensures takes_none { result ≢ Err fault.NoMemory }
 {
     if r.sees_sign(b'(') {
         return Err(r.unexpected());
@@ -159,6 +161,7 @@ fn ended(r: &Reader<'_>) -> Result<(), ReadFault>
 #[tactic(auto, using(ddl_tokens::proofs::Going::string_goes_on), unfolding(crate::specs::Reading::zone_at))]
 fn zone(r: &mut Reader<'_>) -> Result<(), ReadFault>
     ensures value { Gives (λ _. tt) result r.new (zone_at r.old) }
+    ensures takes_none { result ≢ Err fault.NoMemory }
     ensures shorter { OnOk result (length r.new < length r.old) }
 {
     let unsupported = ReadFault::Syntax(SyntaxFault::Unsupported(r.place()));
@@ -178,6 +181,7 @@ fn zone(r: &mut Reader<'_>) -> Result<(), ReadFault>
 #[tactic(auto, unfolding(crate::specs::Reading::zone_in_brackets_at))]
 fn zone_in_brackets(r: &mut Reader<'_>) -> Result<Option<()>, ReadFault>
     ensures value { Gives (λ zone. zone) result r.new (zone_in_brackets_at r.old) }
+    ensures takes_none { result ≢ Err fault.NoMemory }
     ensures shorter { OnOk result (length r.new ≤ length r.old) }
 {
     if !r.sees_sign(b'(') {
@@ -193,6 +197,7 @@ fn zone_in_brackets(r: &mut Reader<'_>) -> Result<Option<()>, ReadFault>
 #[tactic(auto, unfolding(crate::specs::Reading::date_time_at))]
 fn date_time(r: &mut Reader<'_>) -> Result<ColType, ReadFault>
     ensures value { Gives (λ base. base) result r.new (date_time_at r.old) }
+    ensures takes_none { result ≢ Err fault.NoMemory }
     ensures shorter { OnOk result (length r.new ≤ length r.old) }
 {
     zone_in_brackets(r)?;
@@ -202,7 +207,8 @@ fn date_time(r: &mut Reader<'_>) -> Result<ColType, ReadFault>
 
 /// A Decimal whose word stands at a place; out of range it is refused there.
 fn decimal(place: u32, digits: u64, scale: u64) -> Result<ColType, ReadFault>
-    ensures { result ≡ answer (decimal place digits scale) }
+    ensures value { result ≡ answer (decimal place digits scale) }
+    ensures takes_none { result ≢ Err fault.NoMemory }
 {
     if digits >= 1 && digits <= 38 && scale <= digits {
         Ok(ColType::Decimal(digits as u8, scale as u8))
@@ -215,6 +221,7 @@ fn decimal(place: u32, digits: u64, scale: u64) -> Result<ColType, ReadFault>
 #[tactic(auto, unfolding(crate::specs::Reading::scale_at))]
 fn scale(alloc: Global, r: &mut Reader<'_>) -> Result<Option<u64>, ReadFault>
     ensures value { Gives (λ scale. scale) result r.new (scale_at r.old) }
+    ensures takes_none { result ≢ Err fault.NoMemory }
     ensures shorter { OnOk result (length r.new ≤ length r.old) }
 {
     if !r.sees_sign(b',') {
@@ -228,6 +235,7 @@ fn scale(alloc: Global, r: &mut Reader<'_>) -> Result<Option<u64>, ReadFault>
 #[tactic(auto, unfolding(crate::specs::Reading::decimal_at))]
 fn decimal_behind(alloc: Global, place: u32, r: &mut Reader<'_>) -> Result<ColType, ReadFault>
     ensures value { Gives (λ base. base) result r.new (decimal_at place r.old) }
+    ensures takes_none { result ≢ Err fault.NoMemory }
     ensures shorter { OnOk result (length r.new ≤ length r.old) }
 {
     r.sign(b'(')?;
@@ -246,6 +254,7 @@ fn digits_behind(
     r: &mut Reader<'_>,
 ) -> Result<ColType, ReadFault>
     ensures value { Gives (λ base. base) result r.new (digits_at place digits r.old) }
+    ensures takes_none { result ≢ Err fault.NoMemory }
     ensures shorter { OnOk result (length r.new ≤ length r.old) }
 {
     r.sign(b'(')?;
@@ -263,6 +272,7 @@ fn base_behind(
     r: &mut Reader<'_>,
 ) -> Result<ColType, ReadFault>
     ensures value { Gives (λ base. base) result r.new (base_behind name place r.old) }
+    ensures takes_none { result ≢ Err fault.NoMemory }
     ensures shorter { OnOk result (length r.new ≤ length r.old) }
 {
     let base = match name {
@@ -279,6 +289,7 @@ fn base_behind(
 #[tactic(auto, unfolding(crate::specs::Reading::base_at))]
 fn base(alloc: Global, r: &mut Reader<'_>) -> Result<ColType, ReadFault>
     ensures value { Gives (λ base. base) result r.new (base_at r.old) }
+    ensures takes_none { result ≢ Err fault.NoMemory }
     ensures shorter { OnOk result (length r.new < length r.old) }
 {
     let (name, place) = base_named(r)?;
@@ -289,6 +300,7 @@ fn base(alloc: Global, r: &mut Reader<'_>) -> Result<ColType, ReadFault>
 #[tactic(auto, unfolding(crate::specs::Reading::nullable_at))]
 fn nullable(alloc: Global, r: &mut Reader<'_>) -> Result<AttrType, ReadFault>
     ensures value { Gives (λ ty. ty) result r.new (nullable_at r.old) }
+    ensures takes_none { result ≢ Err fault.NoMemory }
     ensures shorter { OnOk result (length r.new ≤ length r.old) }
 {
     r.sign(b'(')?;
@@ -310,6 +322,7 @@ fn type_behind(
     r: &mut Reader<'_>,
 ) -> Result<AttrType, ReadFault>
     ensures value { Gives (λ ty. ty) result r.new (type_behind name place r.old) }
+    ensures takes_none { result ≢ Err fault.NoMemory }
     ensures shorter { OnOk result (length r.new ≤ length r.old) }
 {
     match name {
@@ -328,13 +341,14 @@ fn type_behind(
 #[tactic(auto, unfolding(crate::specs::Reading::type_at))]
 pub(crate) fn type_of(alloc: Global, r: &mut Reader<'_>) -> Result<AttrType, ReadFault>
     ensures value { Gives (λ ty. ty) result r.new (type_at r.old) }
+    ensures takes_none { result ≢ Err fault.NoMemory }
     ensures shorter { OnOk result (length r.new < length r.old) }
 {
     let (name, place) = named(r)?;
     type_behind(alloc, name, place, r)
 }
 
-/// A type of a column, an argument or a result.
+/// A type of a column, an argument or a result. Takes no memory.
 pub fn read_type(alloc: Global, r: &mut Reader<'_>) -> Result<AttrType, ReadFault>
     // The kind of a fault is that of the reading.
     ensures exact { Gives (λ ty. ty) result r.new (type_at r.old) }
@@ -343,9 +357,10 @@ pub fn read_type(alloc: Global, r: &mut Reader<'_>) -> Result<AttrType, ReadFaul
     // What is in the grammar is read, and as nothing else.
     ensures only { (own rest : List Token) (ty : Judged AttrType) → r.old ≡ own ++ rest → IsType ty own
         → JudgedStops TypeStops ty (first rest)
-        → UnlessNoMemory (Err fault.NoMemory) result (result ≡ answer ty) }
+        → result ≡ answer ty }
     // A fault is the first.
     ensures first { IfSyntax result (λ e. IsFirstFault IsType TypeStops r.old e) }
+    ensures takes_none { result ≢ Err fault.NoMemory }
     ensures shorter { OnOk result (length r.new < length r.old) }
 {
     type_of(alloc, r)
