@@ -19,3 +19,6 @@ pub use columns::read_columns;
 pub use keys::read_key;
 pub use laws::a_bad_default_fits_no_type;
 pub use types::read_type;
+
+#[cfg(test)]
+mod tests;
