@@ -342,15 +342,14 @@ fn holds(alloc: Global, row: &[u8]) -> Result<bool, NoMemory> {
 #[test]
 fn texts_and_faults(rt: HostRuntime) -> Result<(), Fail> {
     let mut rest = ROWS;
-    let mut count = 0;
-    for _ in 0..ROWS.len() {
+    for number in 0..ROWS.len() {
         let Some((row, others)) = split_at_byte(rest, b'\n') else {
-            break;
+            assert_eq!(rt; number, 149);
+            return Ok(());
         };
-        assert!(rt; holds(rt.alloc(), row)?, "row {count}");
+        assert!(rt; holds(rt.alloc(), row)?, "row {number}");
         rest = others;
-        count += 1;
     }
-    assert_eq!(rt; count, 149);
+    assert!(rt; false);
     Ok(())
 }
