@@ -1,0 +1,4 @@
+//! The clauses of a definition text.
+#![tactic(auto)]
+
+mod settings;
