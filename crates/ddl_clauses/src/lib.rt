@@ -1,4 +1,5 @@
 //! The clauses of a definition text.
 #![tactic(auto)]
 
+mod choices;
 mod settings;
