@@ -1,3 +1,5 @@
 -- The definitions that contracts cite.
 pub mod Settings
 pub mod Choices
+pub mod Layouts
+pub mod SettingLists

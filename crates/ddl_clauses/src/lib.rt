@@ -2,4 +2,7 @@
 #![tactic(auto)]
 
 mod choices;
+mod clause;
+mod layouts;
+mod lists;
 mod settings;
