@@ -3,3 +3,5 @@ pub mod Settings
 pub mod Choices
 pub mod Layouts
 pub mod SettingLists
+pub mod Clauses
+pub mod Reading

@@ -5,4 +5,5 @@ mod choices;
 mod clause;
 mod layouts;
 mod lists;
+mod reading;
 mod settings;
