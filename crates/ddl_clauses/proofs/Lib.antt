@@ -1,2 +1,4 @@
 mod Ahead
 mod Wholes
+mod Chosen
+mod SettingLaws

@@ -5,3 +5,4 @@ pub mod Layouts
 pub mod SettingLists
 pub mod Clauses
 pub mod Reading
+pub mod Grammar
