@@ -1,5 +1,5 @@
 -- Settings are read by their grammar.
-use Rattle.std.proofs.Common.{◌≡◌, ℕ, zero, suc, ◌<◌, Bool, true, false, cond, not, ◌&&◌, List, [], ◌∷◌, ◌++◌, map, length, Option, Some, None, Result, Ok, Err, refl, sym, ap, subst, ◌∙◌, inl, inr, append_assoc, append-nil}
+use Rattle.std.proofs.Common.{◌≡◌, ℕ, zero, suc, ◌<◌, Bool, true, false, cond, not, ◌&&◌, List, [], ◌∷◌, ◌++◌, map, length, Option, Some, None, Result, Ok, Err, refl, sym, ap, subst, ◌∙◌, ◌⊎◌, inl, inr, append_assoc, append-nil}
 use Rattle.std.specs.Prelude.{codes, IsTrue, ◌==◌}
 use mathlib.Core.Path.{fun_ext}
 use mathlib.Core.Bool.{Bool-set}
@@ -110,3 +110,229 @@ all_apart _ = refl
 
 name_found : (n : SettingName) (text : List ℕ) → same_letters Any text (setting_text n) ≡ true → setting_named all_settings text ≡ Some n
 name_found n text s = finds (setting_number n) n all_settings text (numbered_name n) (all_apart n) s
+
+-- ---- the settings that a list takes
+
+module _ (section : Section) where
+  -- the setting, where the list takes it
+  pick_if : (n : SettingName) (b : Bool) → takes section (group_of n) ≡ b → Option (Taken section)
+  pick_if n true e = Some (record { name = n; taken = e })
+  pick_if n false e = None
+
+  from_picked : ℕ → Option (Taken section) → Kind (Taken section)
+  from_picked p None = Err (UnknownSetting p)
+  from_picked p (Some k) = Ok (Some k)
+
+  from_named : ℕ → Option SettingName → Kind (Taken section)
+  from_named p None = Err (UnknownSetting p)
+  from_named p (Some n) = from_picked p (pick_if n (takes section (group_of n)) refl)
+
+  taken_kind : Token → Kind (Taken section)
+  taken_kind t = cond (is_name t.kind) (from_named t.place (setting_named all_settings t.bytes)) (Ok None)
+
+  abbrev number_of_taken : Taken section → ℕ
+  number_of_taken k = setting_number k.name
+
+  abbrev taken_step : Step (List Setting)
+  taken_step = next_once taken_kind (λ k. setting_at k.name) number_of_taken number_of_setting (wanted_numbers section)
+
+  -- ---- the step of the reader is that of the law
+
+  forget : Option (Taken section) → Kind SettingName
+  forget None = Ok None
+  forget (Some k) = Ok (Some k.name)
+
+  picked_is : (p : ℕ) (n : SettingName) (b : Bool) (e : takes section (group_of n) ≡ b) → or_unknown p (cond b (Some n) None) ≡ (from_picked p (pick_if n b e) >>= forget)
+  unfolding pick_if from_picked forget
+  picked_is p n true e = refl
+  picked_is p n false e = refl
+
+  named_is : (p : ℕ) (o : Option SettingName) → or_unknown p (if_taken section o) ≡ (from_named p o >>= forget)
+  unfolding from_named
+  named_is p None = refl
+  named_is p (Some n) = picked_is p n (takes section (group_of n)) refl
+
+  chosen_is : (b : Bool) (p : ℕ) (o : Option SettingName) → cond {A = Kind SettingName} b (or_unknown p (if_taken section o)) (Ok None) ≡ (cond b (from_named p o) (Ok None) >>= forget)
+  unfolding forget
+  chosen_is true p o = named_is p o
+  chosen_is false p o = refl
+
+  kind_is : (ts : List Token) → setting_kind_at section ts ≡ (kind_at taken_kind ts >>= forget)
+  unfolding setting_kind_at taken_setting kind_at taken_kind passes bytes_ahead forget
+  kind_is [] = refl
+  kind_is (t ∷ ts) = chosen_is (is_name t.kind) t.place (setting_named all_settings t.bytes)
+
+  once_is : (before : List Setting) (ts : List Token) (r : Kind (Taken section)) → ((r >>= forget) >>= λ o. once_of setting_at setting_number number_of_setting (wanted_numbers section) before ts o)
+      ≡ (r >>= λ o. once_of (λ (k : Taken section). setting_at k.name) number_of_taken number_of_setting (wanted_numbers section) before ts o)
+  unfolding forget
+  once_is before ts (Ok None) = refl
+  once_is before ts (Ok (Some k)) = refl
+  once_is before ts (Err e) = refl
+
+  step_is : (before : List Setting) (ts : List Token) → taken_step before ts ≡ next_setting section before ts
+  unfolding next_setting next_once
+  step_is before ts = sym (ap (λ (r : Kind SettingName). r >>= λ o. once_of setting_at setting_number number_of_setting (wanted_numbers section) before ts o) (kind_is ts) ∙ once_is before ts (kind_at taken_kind ts))
+
+  -- ---- each begins with its own name
+
+  pick_is : (k : Taken section) (b : Bool) (e : takes section (group_of k.name) ≡ b) → b ≡ true → pick_if k.name b e ≡ Some k
+  unfolding pick_if
+  pick_is k true e t = ap (λ (x : takes section (group_of k.name) ≡ true). Some (record { name = k.name; taken = x })) (Bool-set _ _ e k.taken)
+  pick_is k false e t = absurd cc
+
+  meant_word : (p : ℕ) (word text : List ℕ) (x : Unit {0}) → meant_by UnknownSetting (word_in word) p text ≡ Ok x → same_letters Any text word ≡ true
+  meant_word p word text x e = at (same_letters Any text word) e where
+    at : (b : Bool) → or_fault (UnknownSetting p) (cond b (Some tt) None) ≡ Ok x → b ≡ true
+    at true e = refl
+    at false e = absurd cc
+
+  headed : (k : Taken section) (a : Setting) (own : List Token) → IsSetting k.name a own → (t : Token) × (rest : List Token) × (own ≡ t ∷ rest) × (taken_kind t ≡ Ok (Some k))
+  unfolding taken_kind from_named from_picked
+  headed k a own h =
+      let one = h.before in
+      let t = one.token in
+      elim (test_cases (is_name t.kind) _ _ _ one.fine) [
+        | inl x ↦
+            let found = name_found k.name t.bytes (meant_word t.place (setting_text k.name) t.bytes h.value x.1) in
+            (t, h.back, h.parts ∙ ap (λ (ts : List Token). ts ++ h.back) one.parts,
+            cond-true (is_name t.kind) _ _ x.0 ∙ ap (from_named t.place) found
+            ∙ ap (from_picked t.place) (pick_is k (takes section (group_of k.name)) refl k.taken))
+        | inr x ↦ absurd (let y = x.1 in cc)
+      ]
+
+  numbered : (k : Taken section) (a : Setting) (own : List Token) → IsSetting k.name a own → number_of_setting a ≡ number_of_taken k
+  numbered k a own h = ap number_of_setting h.behind.is
+
+  named_placed : (p : ℕ) (o : Option SettingName) (e : SyntaxFault) → from_named p o ≡ Err e → p ≡ place_of e
+  unfolding from_named from_picked
+  named_placed p None e h = let k : UnknownSetting p ≡ e = cc in ap place_of k
+  named_placed p (Some n) e h = at (pick_if n (takes section (group_of n)) refl) h where
+    at : (o : Option (Taken section)) → from_picked p o ≡ Err e → p ≡ place_of e
+    at None h = let k : UnknownSetting p ≡ e = cc in ap place_of k
+    at (Some k) h = absurd cc
+
+  kind_placed : (t : Token) (e : SyntaxFault) → taken_kind t ≡ Err e → t.place ≡ place_of e
+  unfolding taken_kind
+  kind_placed t e h = elim (test_cases (is_name t.kind) _ _ _ h) [
+    | inl x ↦ named_placed t.place (setting_named all_settings t.bytes) e x.1
+    | inr x ↦ absurd (let y = x.1 in cc)
+  ]
+
+  -- ---- they stop where no name follows
+
+  abbrev Halts : List Setting → Option Token → Type 0
+  Halts a None = Unit {0}
+  Halts a (Some t) = is_name t.kind ≡ false
+
+  never_none : (p : ℕ) (o : Option SettingName) → from_named p o ≡ Ok None → ⊥
+  unfolding from_named from_picked
+  never_none p None h = absurd cc
+  never_none p (Some n) h = at (pick_if n (takes section (group_of n)) refl) h where
+    at : (o : Option (Taken section)) → from_picked p o ≡ Ok None → ⊥
+    at None h = absurd cc
+    at (Some k) h = absurd cc
+
+  halts : (a : List Setting) (o : Option Token) → BeginsNone taken_kind a o → Halts a o
+  unfolding taken_kind
+  halts a None h = tt
+  halts a (Some t) h = elim (test_cases (is_name t.kind) _ _ _ h) [ inl x ↦ absurd (never_none t.place (setting_named all_settings t.bytes) x.1) | inr x ↦ x.0 ]
+
+  begins_none : (a : List Setting) (o : Option Token) → Halts a o → BeginsNone taken_kind a o
+  unfolding taken_kind
+  begins_none a None h = tt
+  begins_none a (Some t) h = cond-false (is_name t.kind) _ _ h
+
+  -- ---- a lag only beside an update field
+
+  there : {A : Type 0} (number : A → ℕ) (n : ℕ) (a : List A) (x : A) → number x ≡ n → has_number number n (a ++ x ∷ []) ≡ true
+  unfolding has_number
+  there number n [] x e = cond-true (number x == n) _ _ (eq-eqb (number x) n e)
+  there number n (y ∷ a) x e = elim (cases_Bool (number y == n)) [ inl h ↦ cond-true (number y == n) _ _ h | inr h ↦ cond-false (number y == n) _ _ h ∙ there number n a x e ]
+
+  stays : {A : Type 0} (number : A → ℕ) (n : ℕ) (a : List A) (x : A) → has_number number n a ≡ true → has_number number n (a ++ x ∷ []) ≡ true
+  unfolding has_number
+  stays number n [] x e = absurd cc
+  stays number n (y ∷ a) x e = elim (cases_Bool (number y == n)) [
+    | inl h ↦ cond-true (number y == n) _ _ h
+    | inr h ↦ cond-false (number y == n) _ _ h ∙ stays number n a x (sym (cond-false (number y == n) true (has_number number n a) h) ∙ e)
+  ]
+
+  all_stay : {A : Type 0} (number : A → ℕ) (ns : List ℕ) (a : List A) (x : A) → has_all number ns a ≡ true → has_all number ns (a ++ x ∷ []) ≡ true
+  unfolding has_all
+  all_stay number [] a x e = refl
+  all_stay number (n ∷ ns) a x e = elim (test_cases (has_number number n a) _ _ _ e) [
+    | inl h ↦ cond-true (has_number number n (a ++ x ∷ [])) _ _ (stays number n a x h.0) ∙ all_stay number ns a x h.1
+    | inr h ↦ absurd (let y = h.1 in cc)
+  ]
+
+  -- what was there, or is the last
+  was_there : {A : Type 0} (number : A → ℕ) (n : ℕ) (a : List A) (x : A) → has_number number n (a ++ x ∷ []) ≡ true → (has_number number n a ≡ true) ⊎ (number x ≡ n)
+  unfolding has_number
+  was_there number n [] x e = elim (test_cases (number x == n) _ _ _ e) [ inl h ↦ inr (eqb-true (number x) n h.0) | inr h ↦ absurd (let y = h.1 in cc) ]
+  was_there number n (y ∷ a) x e = elim (test_cases (number y == n) _ _ _ e) [
+    | inl h ↦ inl (cond-true (number y == n) _ _ h.0)
+    | inr h ↦ elim (was_there number n a x h.1) [ inl k ↦ inl (cond-false (number y == n) _ _ h.0 ∙ k) | inr k ↦ inr k ]
+  ]
+
+  abbrev Adds : List Setting → List Setting → List Token → Type 0
+  Adds = AddsOnce number_of_taken number_of_setting (λ k. IsSetting k.name)
+
+  lag_is_update : (n : SettingName) → setting_number n ≡ setting_number name.UpdateLag → group_of n ≡ group.Update
+  lag_is_update name.UpdateLag e = refl
+  lag_is_update _ e = absurd cc
+
+  -- where a lag stands, the list takes what an update takes
+  lag_is_taken : (a b : List Setting) (ts : List Token) → Many Adds a b ts → (has_setting name.UpdateLag a ≡ true → takes section group.Update ≡ true) → has_setting name.UpdateLag b ≡ true → takes section group.Update ≡ true
+  lag_is_taken a b ts (none e h) k l = k (subst (λ (x : List Setting). has_setting name.UpdateLag x ≡ true) (sym e) l)
+  lag_is_taken a b ts (more {b = c} {rest = rest} e x m) k l =
+      lag_is_taken c b rest m (λ h. elim (was_there number_of_setting (setting_number name.UpdateLag) a x.item (subst (λ (y : List Setting). has_setting name.UpdateLag y ≡ true) x.new h)) [
+        | inl y ↦ k y
+        | inr y ↦ subst (λ (g : _). takes section g ≡ true) (lag_is_update x.kind.name (sym (numbered x.kind x.item _ x.fits) ∙ y)) x.kind.taken
+      ]) l
+
+  abbrev Listed : List Setting → List Token → Type 0
+  Listed = InAnyOrder number_of_taken number_of_setting (λ k. IsSetting k.name) (wanted_numbers section)
+
+  no_lag_there : has_setting name.UpdateLag [] ≡ true → takes section group.Update ≡ true
+  unfolding has_number
+  no_lag_there e = absurd cc
+
+  completes : (a : List Setting) (own : List Token) → Listed a own → (b : List Setting) × (ts : List Token) × Listed b (own ++ ts) × (has_field_for_lag b ≡ true)
+  completes a own h = elim (cases_Bool (has_field_for_lag a)) [
+    | inl e ↦ (a, [], subst (λ (us : List Token). Listed a us) (sym (append-nil own)) h, e)
+    | inr e ↦ elim (test_cases (has_setting name.UpdateLag a) _ _ _ e) [
+      | inr x ↦ absurd (let y = x.1 in cc)
+      | inl x ↦
+          let k : Taken section = record { name = name.UpdateField; taken = lag_is_taken [] a own h.0 no_lag_there x.0 } in
+          let s = (setting_law {Before = λ _. Unit {0}} name.UpdateField).some in
+          let adds : Adds a (a ++ s.0 ∷ []) s.1 = record { kind = k; item = s.0; new = refl; once = x.1; fits = s.2 } in
+          (a ++ s.0 ∷ [], s.1,
+          (many_then Adds [] a (a ++ s.0 ∷ []) own s.1 h.0 (more (sym (append-nil s.1)) adds (none refl refl)), all_stay number_of_setting (wanted_numbers section) a s.0 h.1),
+          cond-true (has_setting name.UpdateLag (a ++ s.0 ∷ [])) _ _ (stays number_of_setting (setting_number name.UpdateLag) a s.0 x.0)
+          ∙ there number_of_setting (setting_number name.UpdateField) a s.0 (numbered k s.0 s.1 s.2))
+    ]
+  ]
+
+-- the wanted settings, which the list takes
+wanted_taken : (s : Section) → List (Taken s)
+wanted_taken section.Executable = record { name = name.Command; taken = refl } ∷ record { name = name.Format; taken = refl } ∷ []
+wanted_taken section.Pool = record { name = name.Command; taken = refl } ∷ record { name = name.Format; taken = refl } ∷ []
+wanted_taken section.FunctionExecutable = record { name = name.Command; taken = refl } ∷ record { name = name.Format; taken = refl } ∷ []
+wanted_taken section.FunctionPool = record { name = name.Command; taken = refl } ∷ record { name = name.Format; taken = refl } ∷ []
+wanted_taken section.Cache = record { name = name.SizeInCells; taken = refl } ∷ []
+wanted_taken _ = []
+
+wanted_are : (s : Section) → map (number_of_taken s) (wanted_taken s) ≡ wanted_numbers s
+unfolding wanted_taken
+wanted_are section.Executable = refl
+wanted_are _ = refl
+
+settings_law : {Before : Option Token → Type 0} (s : Section) → Lawful Before (settings_at s) (AreSettings s) (Halts s)
+unfolding settings_at
+settings_law {Before = Before} s =
+    let any : Lawful Before (repeat (next_setting s) []) (Listed s) (Halts s) =
+    subst (λ (step : Step (List Setting)). Lawful Before (repeat step []) (Listed s) (Halts s)) (fun_ext (λ before. fun_ext (λ ts. step_is s before ts)))
+    (subst (λ (ns : List ℕ). Lawful Before (repeat (next_once (taken_kind s) (λ (k : Taken s). setting_at k.name) (number_of_taken s) number_of_setting ns) []) (InAnyOrder (number_of_taken s) number_of_setting (λ (k : Taken s). IsSetting k.name) ns) (Halts s)) (wanted_are s)
+    (stopping (λ a own o h x. halts s a o x) (λ a own o h x. begins_none s a o x)
+    (in_any_order (wanted_taken s) (kind_placed s) (λ k. setting_law k.name) (headed s) (numbered s)))) in
+    tested_law has_field_for_lag any (completes s)
