@@ -2,3 +2,4 @@ mod Ahead
 mod Wholes
 mod Chosen
 mod SettingLaws
+mod ClauseLaws

@@ -6,15 +6,16 @@ use mathlib.Core.Bool.{Bool-set}
 use Rattle.std.proofs.lemmas.Bool.{cond-true, cond-false, cases_Bool, eq-eqb, eqb-true}
 use Rattle.ddl_tokens.specs.declared.letters.LetterCase.{LetterCase}
 use Rattle.ddl_tokens.specs.declared.letters.LetterCase.TheVariants.{Any}
-use Rattle.ddl_tokens.specs.declared.token.TokenKind.TheVariants.{Word, Number, String}
+use Rattle.ddl_tokens.specs.declared.token.TokenKind.TheVariants.{Word, QuotedWord, Number, String, Sign}
+use Rattle.ddl_tokens.specs.declared.token.TokenKind.{TokenKind}
 use Rattle.ddl_tokens.specs.declared.fault.SyntaxFault.{SyntaxFault}
 use Rattle.ddl_tokens.specs.declared.fault.SyntaxFault.TheVariants.{Unexpected, UnknownSetting, Unsupported}
 use Rattle.ddl_tokens.specs.Letters.{folded, same_letters}
 use Rattle.ddl_tokens.specs.Tokens.{Token}
-use Rattle.ddl_tokens.specs.Reading.{◌>>=◌, Read, is_name, is_number, is_string, is_keyword, is_the_sign, passes, bytes_ahead}
-use Rattle.ddl_tokens.specs.Laws.{first, place_of, Anyhow, Lawful, IsSign, Then}
+use Rattle.ddl_tokens.specs.Reading.{◌>>=◌, Read, is_name, is_number, is_string, is_keyword, is_signed, is_the_sign, passes, bytes_ahead}
+use Rattle.ddl_tokens.specs.Laws.{first, place_of, Anyhow, Lawful, IsSign, Made, Then}
 use Rattle.ddl_tokens.specs.Lists.{Kind, Step, has_number, has_all, kind_at, once_of, next_once, repeat, AddsOnce, InAnyOrder, BeginsNone, Many, none, more}
-use Rattle.ddl_tokens.proofs.Laws.{bytes, first_passes, keywords_apart, made, sign, stopping, test_cases, then, then_after}
+use Rattle.ddl_tokens.proofs.Laws.{bytes, first_passes, judged_ok, keywords_apart, made, sign, stopping, test_cases, then, then_after}
 use Rattle.ddl_tokens.proofs.Once.{in_any_order}
 use Rattle.ddl_tokens.proofs.Repeats.{many_then}
 use Rattle.ddl_clauses.specs.declared.settings.SettingName.{SettingName}
@@ -336,3 +337,28 @@ settings_law {Before = Before} s =
     (stopping (λ a own o h x. halts s a o x) (λ a own o h x. begins_none s a o x)
     (in_any_order (wanted_taken s) (kind_placed s) (λ k. setting_law k.name) (headed s) (numbered s)))) in
     tested_law has_field_for_lag any (completes s)
+
+-- a sign is no name
+sign_no_name : (sign : ℕ) (t : Token) → is_the_sign sign t ≡ true → is_name t.kind ≡ false
+unfolding is_the_sign
+sign_no_name sign t e = elim (test_cases (is_signed t.kind) _ _ _ e) [
+  | inr x ↦ absurd (let y = x.1 in cc)
+  | inl x ↦ no_name t.kind x.0
+] where
+  no_name : (k : TokenKind) → is_signed k ≡ true → is_name k ≡ false
+  no_name Sign h = refl
+  no_name Word h = absurd cc
+  no_name QuotedWord h = absurd cc
+  no_name _ h = refl
+
+halts_at : (s : Section) (settings b : List Setting) (ts rest : List Token) → Made (λ _. settings) (IsSign 41) b ts → Halts s settings (first (ts ++ rest))
+halts_at s settings b ts rest h =
+    let one = h.fits in
+    subst (λ (us : List Token). Halts s settings (first (us ++ rest))) (sym one.parts)
+    (sign_no_name 41 one.token (judged_ok (is_the_sign 41 one.token) tt h.from (Unexpected one.token.place) one.fine).0)
+
+pub brackets_law : {Before : Option Token → Type 0} (s : Section) → Lawful Before (settings_in_brackets_at s) (AreSettingsInBrackets s) Anyhow
+unfolding settings_in_brackets_at
+brackets_law s =
+    then (sign 40) (λ _.
+    then_after (settings_law s) (λ settings. made (λ _. settings) Anyhow (λ a o x. tt) (λ a o x. tt) (sign 41)) (λ settings b ts rest h x. halts_at s settings b ts rest h))

@@ -1,10 +1,9 @@
 -- The clauses, as they are written.
-use Rattle.std.specs.Prelude.{ℕ, Bool, true, false, List, [], ◌∷◌, codes, map, Option, Some, None, Ok, if◌then◌else◌}
+use Rattle.std.specs.Prelude.{ℕ, Bool, true, false, List, [], ◌∷◌, codes, map, Option, Some, None, if◌then◌else◌}
 use Rattle.dict_schema.specs.declared.definition.Kind.{Kind}
 use Rattle.dict_schema.specs.declared.definition.Lifetime.{Lifetime}
 use Rattle.ddl_tokens.specs.Tokens.{Token}
 use Rattle.ddl_tokens.specs.Reading.{is_keyword}
-use Rattle.ddl_tokens.specs.Lists.{Kind as KindOf}
 use Rattle.ddl_clauses.specs.declared.clause.Clause.{Clause}
 use Rattle.ddl_clauses.specs.declared.clause.Clause.TheVariants as clause
 use Rattle.ddl_clauses.specs.declared.clause.ClauseKind.{ClauseKind}
@@ -57,12 +56,17 @@ abbrev pub wanted_clauses : List ℕ
 wanted_clauses = map clause_number (kind.Source ∷ kind.Layout ∷ [])
 
 -- the kind of the clause that a token begins
-abbrev pub clause_kind_of : Token → KindOf ClauseKind
-clause_kind_of t =
-    if is_keyword (codes "SOURCE") t then Ok (Some kind.Source)
-    else if is_keyword (codes "LAYOUT") t then Ok (Some kind.Layout)
-    else if is_keyword (codes "LIFETIME") t then Ok (Some kind.Lifetime)
-    else if is_keyword (codes "RANGE") t then Ok (Some kind.Range)
-    else if is_keyword (codes "SETTINGS") t then Ok (Some kind.Settings)
-    else if is_keyword (codes "COMMENT") t then Ok (Some kind.Comment)
-    else Ok None
+abbrev pub clause_kind : Token → Option ClauseKind
+clause_kind t =
+    if is_keyword (codes "SOURCE") t then Some kind.Source
+    else if is_keyword (codes "LAYOUT") t then Some kind.Layout
+    else if is_keyword (codes "LIFETIME") t then Some kind.Lifetime
+    else if is_keyword (codes "RANGE") t then Some kind.Range
+    else if is_keyword (codes "SETTINGS") t then Some kind.Settings
+    else if is_keyword (codes "COMMENT") t then Some kind.Comment
+    else None
+
+-- the source of a function, and the bound on its output, where it stands there
+pub record WrittenFunction : Type 0 where
+  pub source : WrittenSource
+  pub output : Option ℕ

@@ -32,7 +32,7 @@ use Rattle.ddl_clauses.specs.Choices.{source_kind_in, word_in}
 use Rattle.ddl_clauses.specs.Layouts.{all_layouts, layout_named, layout_section}
 use Rattle.ddl_clauses.specs.SettingLists.{setting, number_of_setting, wanted_numbers, has_field_for_lag}
 use Rattle.ddl_clauses.specs.Clauses.{source, layout, lifetime, range, or_empty, has_some, clause_number, number_of_clause}
-use Rattle.ddl_clauses.specs.Clauses.{wanted_clauses}
+use Rattle.ddl_clauses.specs.Clauses.{wanted_clauses, clause_kind}
 
 -- one token of some kind, whose bytes mean this value
 abbrev pub IsChosen : {A : Type 0} → (TokenKind → Bool) → Meaning A → Grammar A
@@ -168,3 +168,8 @@ IsDictionaryClause kind.Comment = Made clause.Comment IsComment
 -- in any order, each at most once
 abbrev pub AreDictionaryClauses : Grammar (List Clause)
 AreDictionaryClauses = InAnyOrder clause_number number_of_clause IsDictionaryClause wanted_clauses
+
+-- they stop where a token begins no clause
+abbrev pub NoClauseFollows : {A : Type 0} → Stopping A
+NoClauseFollows a None = Unit {0}
+NoClauseFollows a (Some t) = clause_kind t ≡ None

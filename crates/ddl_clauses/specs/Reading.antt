@@ -23,7 +23,7 @@ use Rattle.ddl_clauses.specs.Settings.{source_section, wanted_settings}
 use Rattle.ddl_clauses.specs.Choices.{chosen_at, meant_by, source_kind_in, whole_in, most_whole, most_short, word_in}
 use Rattle.ddl_clauses.specs.Layouts.{all_layouts, layout_named, layout_section}
 use Rattle.ddl_clauses.specs.SettingLists.{settings_in_brackets_at}
-use Rattle.ddl_clauses.specs.Clauses.{source, layout, lifetime, range, clause_kind_of, clause_number, number_of_clause}
+use Rattle.ddl_clauses.specs.Clauses.{source, layout, lifetime, range, clause_number, number_of_clause}
 use Rattle.ddl_clauses.specs.Clauses.{wanted_clauses, or_empty, has_some}
 
 unfoldable pub short_at : List Token → Read ℕ
