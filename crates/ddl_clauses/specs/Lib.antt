@@ -6,3 +6,4 @@ pub mod SettingLists
 pub mod Clauses
 pub mod Reading
 pub mod Grammar
+pub mod Parts

@@ -5,5 +5,6 @@ mod choices;
 mod clause;
 mod layouts;
 mod lists;
+mod parts;
 mod reading;
 mod settings;

@@ -188,7 +188,7 @@ fn comment(alloc: Global, r: &mut Reader<'_>) -> Result<Bytes, ReadFault>
     r.string(alloc)
 }
 
-fn clause_number(kind: ClauseKind) -> u8
+pub(crate) fn clause_number(kind: ClauseKind) -> u8
     ensures { result ≡ clause_number kind }
 {
     match kind {
@@ -201,7 +201,7 @@ fn clause_number(kind: ClauseKind) -> u8
     }
 }
 
-fn number_of_clause(clause: &Clause) -> u8
+pub(crate) fn number_of_clause(clause: &Clause) -> u8
     ensures { result ≡ number_of_clause clause.now }
 {
     match clause {
