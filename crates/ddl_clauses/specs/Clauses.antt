@@ -70,3 +70,6 @@ clause_kind t =
 pub record WrittenFunction : Type 0 where
   pub source : WrittenSource
   pub output : Option ℕ
+
+abbrev pub written_function : WrittenSource → Option ℕ → WrittenFunction
+written_function source output = record { source = source; output = output }

@@ -23,6 +23,8 @@ use Rattle.ddl_clauses.specs.declared.clause.Clause.TheVariants as clause
 use Rattle.ddl_clauses.specs.declared.clause.ClauseKind.{ClauseKind}
 use Rattle.ddl_clauses.specs.declared.clause.ClauseKind.TheVariants as kind
 use Rattle.ddl_clauses.specs.declared.clause.RangeNames.{RangeNames}
+use Rattle.ddl_clauses.specs.declared.parts.DictionaryParts.{DictionaryParts}
+use Rattle.ddl_clauses.specs.declared.parts.FunctionParts.{FunctionParts}
 use Rattle.ddl_clauses.specs.declared.clause.WrittenLayout.{WrittenLayout}
 use Rattle.ddl_clauses.specs.declared.clause.WrittenSource.{WrittenSource}
 use Rattle.ddl_clauses.specs.Settings.{setting_number, setting_text, form_of, group_of, takes, wanted_settings, source_section}
@@ -32,7 +34,8 @@ use Rattle.ddl_clauses.specs.Choices.{source_kind_in, word_in}
 use Rattle.ddl_clauses.specs.Layouts.{all_layouts, layout_named, layout_section}
 use Rattle.ddl_clauses.specs.SettingLists.{setting, number_of_setting, wanted_numbers, has_field_for_lag}
 use Rattle.ddl_clauses.specs.Clauses.{source, layout, lifetime, range, or_empty, has_some, clause_number, number_of_clause}
-use Rattle.ddl_clauses.specs.Clauses.{wanted_clauses, clause_kind}
+use Rattle.ddl_clauses.specs.Clauses.{wanted_clauses, clause_kind, WrittenFunction, written_function}
+use Rattle.ddl_clauses.specs.Parts.{dictionary_parts, function_parts}
 
 -- one token of some kind, whose bytes mean this value
 abbrev pub IsChosen : {A : Type 0} → (TokenKind → Bool) → Meaning A → Grammar A
@@ -173,3 +176,16 @@ AreDictionaryClauses = InAnyOrder clause_number number_of_clause IsDictionaryCla
 abbrev pub NoClauseFollows : {A : Type 0} → Stopping A
 NoClauseFollows a None = Unit {0}
 NoClauseFollows a (Some t) = clause_kind t ≡ None
+
+-- what the clauses of a dictionary say
+abbrev pub AreDictionaryParts : Grammar DictionaryParts
+AreDictionaryParts = Made dictionary_parts AreDictionaryClauses
+
+-- the source of a function [ SETTINGS .. ]
+abbrev pub IsWrittenFunction : Grammar WrittenFunction
+IsWrittenFunction =
+    Then (IsSource Function) (λ source. Made (written_function source) (Optional IsOutputSettings))
+
+-- what they say
+abbrev pub AreFunctionParts : Grammar FunctionParts
+AreFunctionParts = Made function_parts IsWrittenFunction

@@ -4,6 +4,6 @@ pub mod Choices
 pub mod Layouts
 pub mod SettingLists
 pub mod Clauses
+pub mod Parts
 pub mod Reading
 pub mod Grammar
-pub mod Parts

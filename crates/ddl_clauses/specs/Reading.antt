@@ -15,6 +15,8 @@ use Rattle.ddl_clauses.specs.declared.clause.RangeNames.{RangeNames}
 use Rattle.ddl_clauses.specs.declared.clause.WrittenLayout.{WrittenLayout}
 use Rattle.ddl_clauses.specs.declared.clause.WrittenSource.{WrittenSource}
 use Rattle.ddl_clauses.specs.declared.layouts.LayoutName.{LayoutName}
+use Rattle.ddl_clauses.specs.declared.parts.DictionaryParts.{DictionaryParts}
+use Rattle.ddl_clauses.specs.declared.parts.FunctionParts.{FunctionParts}
 use Rattle.ddl_clauses.specs.declared.settings.Owner.{Owner}
 use Rattle.ddl_clauses.specs.declared.settings.Owner.TheVariants.{Dictionary, Function}
 use Rattle.ddl_clauses.specs.declared.settings.Section.{Section}
@@ -24,7 +26,8 @@ use Rattle.ddl_clauses.specs.Choices.{chosen_at, meant_by, source_kind_in, whole
 use Rattle.ddl_clauses.specs.Layouts.{all_layouts, layout_named, layout_section}
 use Rattle.ddl_clauses.specs.SettingLists.{settings_in_brackets_at}
 use Rattle.ddl_clauses.specs.Clauses.{source, layout, lifetime, range, clause_number, number_of_clause}
-use Rattle.ddl_clauses.specs.Clauses.{wanted_clauses, or_empty, has_some}
+use Rattle.ddl_clauses.specs.Clauses.{wanted_clauses, or_empty, has_some, WrittenFunction, written_function}
+use Rattle.ddl_clauses.specs.Parts.{dictionary_parts, function_parts}
 
 unfoldable pub short_at : List Token → Read ℕ
 short_at ts = chosen_at is_number (meant_by Unexpected (whole_in most_short)) ts
@@ -143,3 +146,23 @@ clause_kind_ahead ts =
 unfoldable pub next_dictionary_clause : Step (List Clause)
 next_dictionary_clause before ts =
     once_of dictionary_clause_at clause_number number_of_clause wanted_clauses before ts (clause_kind_ahead ts)
+
+-- the clauses of a dictionary, and what they say
+unfoldable pub dictionary_clauses_at : List Token → Read DictionaryParts
+dictionary_clauses_at ts = repeat next_dictionary_clause [] ts >>= λ clauses. Ok (dictionary_parts clauses.0, clauses.1)
+
+-- SETTINGS, where it stands there
+unfoldable pub output_if_there_at : List Token → Read (Option ℕ)
+output_if_there_at ts =
+    if passes (is_keyword (codes "SETTINGS")) ts then output_settings_at ts >>= (λ output. Ok (Some output.0, output.1))
+    else Ok (None, ts)
+
+unfoldable pub written_function_at : List Token → Read WrittenFunction
+written_function_at ts = do
+  source ← source_at Function ts
+  output ← output_if_there_at source.1
+  Ok (written_function source.0 output.0, output.1)
+
+-- the source of a function and its settings, and what they say
+unfoldable pub function_clauses_at : List Token → Read FunctionParts
+function_clauses_at ts = written_function_at ts >>= λ written. Ok (function_parts written.0, written.1)

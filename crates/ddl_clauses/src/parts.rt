@@ -1,17 +1,17 @@
 // What written clauses say of a definition.
 ghost use Rattle.std.specs.Prelude.{◌≡◌, Some, None, IfOk, MatchOption};
-ghost use Rattle.ddl_clauses.specs.Choices.{most_short};
+ghost use Rattle.ddl_clauses.specs.Clauses.{WrittenFunction, source as written_source, written_function};
 ghost use Rattle.ddl_clauses.specs.Parts.{value_of_setting, text_or_none, format_or_tab, flag_or, whole_or, short_or};
 ghost use Rattle.ddl_clauses.specs.Parts.{strategy_or_min, update_with_lag, kept_short, pool_size_in, is_run_directly};
 ghost use Rattle.ddl_clauses.specs.Parts.{source_with, array_size_in, cache_with, layout_with, clause_of_kind};
 ghost use Rattle.ddl_clauses.specs.Parts.{written_source_in, written_layout_in, lifetime_in, range_names_in, output_in};
-ghost use Rattle.ddl_clauses.specs.Parts.{comment_in, dictionary_parts, default_output};
+ghost use Rattle.ddl_clauses.specs.Parts.{comment_in, dictionary_parts, default_output, output_or_default, sizes, function_parts};
 
 use crate::clause::{Clause, ClauseKind, RangeNames, WrittenSource};
 use crate::layouts::LayoutName;
 use crate::reading::{clause_number, number_of_clause};
 use crate::settings::{Owner, Setting, SettingName, SettingValue, setting_number};
-use dict_schema::{CacheSet, Format, Layout, Lifetime, SourceOf, Strategy, Update};
+use dict_schema::{CacheSet, Format, Kind, Layout, Lifetime, SourceOf, Strategy, Update};
 use dict_value::{Bytes, NoMemory};
 use std::alloc::Global;
 
@@ -154,13 +154,17 @@ fn is_run_directly(owner: Owner) -> bool
 }
 
 /// A source with its defaults.
-fn source_with(alloc: Global, owner: Owner, written: &WrittenSource) -> Result<SourceOf, NoMemory>
-    ensures { IfOk result (λ source. source ≡ source_with owner written.now) }
+fn source_with(
+    alloc: Global,
+    owner: Owner,
+    kind: Kind,
+    settings: &[Setting],
+) -> Result<SourceOf, NoMemory>
+    ensures { IfOk result (λ source. source ≡ source_with owner (written_source kind settings.now)) }
 {
-    let settings = written.settings.as_slice();
     let lag = short_of(SettingName::UpdateLag, settings, 1);
     Ok(SourceOf {
-        kind: written.kind,
+        kind,
         command: text_of(alloc, SettingName::Command, settings)?,
         format: format_of(SettingName::Format, settings),
         direct: flag_of(SettingName::ExecuteDirect, settings, is_run_directly(owner)),
@@ -236,4 +240,123 @@ fn clause_of_kind(kind: ClauseKind, clauses: &[Clause]) -> Option<&Clause>
         rest = others;
     }
     None
+}
+
+/// The kind and the settings of the source; SOURCE is always there.
+fn written_source(clauses: &[Clause]) -> (Kind, &[Setting])
+    ensures kind { result.0 ≡ (written_source_in (clause_of_kind ClauseKind.Source clauses.now)).kind }
+    ensures settings { result.1.now ≡ (written_source_in (clause_of_kind ClauseKind.Source clauses.now)).settings }
+{
+    match clause_of_kind(ClauseKind::Source, clauses) {
+        Some(Clause::Source(written)) => (written.kind, written.settings.as_slice()),
+        _ => (Kind::Executable, &[]),
+    }
+}
+
+/// The name and the settings of the layout; LAYOUT is always there.
+fn written_layout(clauses: &[Clause]) -> (LayoutName, &[Setting])
+    ensures name { result.0 ≡ (written_layout_in (clause_of_kind ClauseKind.Layout clauses.now)).name }
+    ensures settings { result.1.now ≡ (written_layout_in (clause_of_kind ClauseKind.Layout clauses.now)).settings }
+{
+    match clause_of_kind(ClauseKind::Layout, clauses) {
+        Some(Clause::Layout(written)) => (written.name, written.settings.as_slice()),
+        _ => (LayoutName::Flat, &[]),
+    }
+}
+
+fn lifetime_of(clauses: &[Clause]) -> Lifetime
+    ensures { result ≡ lifetime_in (clause_of_kind ClauseKind.Lifetime clauses.now) }
+{
+    match clause_of_kind(ClauseKind::Lifetime, clauses) {
+        Some(Clause::Lifetime(lifetime)) => *lifetime,
+        _ => Lifetime { min: 0, max: 0 },
+    }
+}
+
+fn range_of(alloc: Global, clauses: &[Clause]) -> Result<Option<RangeNames>, NoMemory>
+    ensures { IfOk result (λ range. range ≡ range_names_in (clause_of_kind ClauseKind.Range clauses.now)) }
+{
+    match clause_of_kind(ClauseKind::Range, clauses) {
+        Some(Clause::Range(names)) => Ok(Some(RangeNames {
+            start: Bytes::copy_of(alloc, names.start.as_slice())?,
+            end: Bytes::copy_of(alloc, names.end.as_slice())?,
+        })),
+        _ => Ok(None),
+    }
+}
+
+/// The greatest number of bytes of one output, where no clause says it: 64 MiB.
+const DEFAULT_OUTPUT: u64 = 67_108_864;
+
+fn output_of(clauses: &[Clause]) -> u64
+    ensures { result ≡ output_in (clause_of_kind ClauseKind.Settings clauses.now) }
+{
+    match clause_of_kind(ClauseKind::Settings, clauses) {
+        Some(Clause::Settings(output)) => *output,
+        _ => DEFAULT_OUTPUT,
+    }
+}
+
+fn comment_of(alloc: Global, clauses: &[Clause]) -> Result<Bytes, NoMemory>
+    ensures { IfOk result (λ comment. comment ≡ comment_in (clause_of_kind ClauseKind.Comment clauses.now)) }
+{
+    match clause_of_kind(ClauseKind::Comment, clauses) {
+        Some(Clause::Comment(comment)) => Bytes::copy_of(alloc, comment.as_slice()),
+        _ => Ok(Bytes::new(alloc)),
+    }
+}
+
+/// What the clauses of a dictionary say.
+pub(crate) fn dictionary_parts(
+    alloc: Global,
+    clauses: &[Clause],
+) -> Result<DictionaryParts, NoMemory>
+    ensures { IfOk result (λ parts. parts ≡ dictionary_parts clauses.now) }
+{
+    let (kind, source_settings) = written_source(clauses);
+    let (name, layout_settings) = written_layout(clauses);
+    let output = output_of(clauses);
+    Ok(DictionaryParts {
+        source: source_with(alloc, Owner::Dictionary, kind, source_settings)?,
+        layout: layout_with(name, layout_settings),
+        lifetime: lifetime_of(clauses),
+        range: range_of(alloc, clauses)?,
+        max_output: kept_short(output),
+        comment: comment_of(alloc, clauses)?,
+        sizes: Sizes {
+            output,
+            array_size: array_size_of(layout_settings),
+            pool_size: pool_size_of(source_settings),
+        },
+    })
+}
+
+fn output_or_default(output: Option<u64>) -> u64
+    ensures { result ≡ output_or_default output }
+{
+    match output {
+        Some(output) => output,
+        None => DEFAULT_OUTPUT,
+    }
+}
+
+/// What the source and the settings of a function say.
+pub(crate) fn function_parts(
+    alloc: Global,
+    source: &WrittenSource,
+    output: Option<u64>,
+) -> Result<FunctionParts, NoMemory>
+    ensures { IfOk result (λ parts. parts ≡ function_parts (written_function source.now output)) }
+{
+    let settings = source.settings.as_slice();
+    let output = output_or_default(output);
+    Ok(FunctionParts {
+        source: source_with(alloc, Owner::Function, source.kind, settings)?,
+        max_output: kept_short(output),
+        sizes: Sizes {
+            output,
+            array_size: array_size_of(&[]),
+            pool_size: pool_size_of(settings),
+        },
+    })
 }
