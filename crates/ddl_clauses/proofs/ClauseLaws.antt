@@ -11,7 +11,7 @@ use Rattle.ddl_tokens.specs.declared.letters.LetterCase.TheVariants.{Any}
 use Rattle.ddl_tokens.specs.Letters.{same_letters}
 use Rattle.ddl_tokens.specs.Tokens.{Token}
 use Rattle.ddl_tokens.specs.Reading.{◌>>=◌, is_keyword, is_the_sign, is_word, is_name, is_number, is_string, of_kind, passes}
-use Rattle.ddl_tokens.specs.Laws.{Grammar, Stopping, first, place_of, Anyhow, Lawful, IsKeyword, IsSign, Then, Either, Made, OptionalStops}
+use Rattle.ddl_tokens.specs.Laws.{Grammar, Stopping, first, place_of, Anyhow, Lawful, IsKeyword, IsSign, Then, Either, Made, Optional, OptionalStops}
 use Rattle.ddl_tokens.specs.Lists.{Step, next_once, once_of, kind_at, repeat, BeginsNone}
 use Rattle.ddl_tokens.proofs.Laws.{Passes, Fails, by_token, bytes, first_passes, headed, judged_ok, keyword, keywords_apart, made, optional, sign, signs_apart, stopping, test_cases, then, then_after}
 use Rattle.ddl_tokens.proofs.Once.{in_any_order}
@@ -22,16 +22,16 @@ use Rattle.ddl_clauses.specs.declared.clause.ClauseKind.{ClauseKind}
 use Rattle.ddl_clauses.specs.declared.clause.ClauseKind.TheVariants as kind
 use Rattle.ddl_clauses.specs.declared.layouts.LayoutName.{LayoutName}
 use Rattle.ddl_clauses.specs.declared.settings.Owner.{Owner}
-use Rattle.ddl_clauses.specs.declared.settings.Owner.TheVariants.{Dictionary}
+use Rattle.ddl_clauses.specs.declared.settings.Owner.TheVariants.{Dictionary, Function}
 use Rattle.ddl_clauses.specs.declared.settings.Section.{Section}
 use Rattle.ddl_clauses.specs.declared.settings.Setting.{Setting}
 use Rattle.ddl_clauses.specs.Settings.{source_section, wanted_settings}
 use Rattle.ddl_clauses.specs.Choices.{chosen_at, meant_by, source_kind_in, whole_in, most_whole, most_short}
 use Rattle.ddl_clauses.specs.Layouts.{all_layouts, layout_named, layout_section}
 use Rattle.ddl_clauses.specs.SettingLists.{settings_in_brackets_at}
-use Rattle.ddl_clauses.specs.Clauses.{source, layout, lifetime, range, or_empty, has_some, clause_number, number_of_clause, wanted_clauses, clause_kind}
-use Rattle.ddl_clauses.specs.Reading.{short_at, source_at, layout_settings_at, layout_at, min_max_at, max_min_at, bounds_at, lifetime_at, range_at, output_settings_at, comment_at, dictionary_clause_at, clause_kind_ahead, next_dictionary_clause}
-use Rattle.ddl_clauses.specs.Grammar.{IsChosen, IsWholeUpTo, AreSettingsInBrackets, IsSource, LeftOutUnless, IsLayout, IsMinMax, IsMaxMin, AreBounds, IsLifetime, IsRange, IsOutputSettings, IsComment, IsDictionaryClause, AreDictionaryClauses, NoClauseFollows}
+use Rattle.ddl_clauses.specs.Clauses.{source, layout, lifetime, range, or_empty, has_some, clause_number, number_of_clause, wanted_clauses, clause_kind, written_function}
+use Rattle.ddl_clauses.specs.Reading.{short_at, source_at, layout_settings_at, layout_at, min_max_at, max_min_at, bounds_at, lifetime_at, range_at, output_settings_at, comment_at, dictionary_clause_at, clause_kind_ahead, next_dictionary_clause, output_if_there_at, written_function_at}
+use Rattle.ddl_clauses.specs.Grammar.{IsChosen, IsWholeUpTo, AreSettingsInBrackets, IsSource, LeftOutUnless, IsLayout, IsMinMax, IsMaxMin, AreBounds, IsLifetime, IsRange, IsOutputSettings, IsComment, IsDictionaryClause, AreDictionaryClauses, NoClauseFollows, IsWrittenFunction, FunctionStops}
 use Rattle.ddl_clauses.proofs.Chosen.{chosen, meant_placed}
 use Rattle.ddl_clauses.proofs.SettingLaws.{word_law, whole_law, brackets_law}
 
@@ -276,3 +276,13 @@ written_clauses_law {Before = Before} =
     (stopping (λ a own o h x. none_follows a o x) (λ a own o h x. follows_none a o x)
     (in_any_order (kind.Source ∷ kind.Layout ∷ []) (λ t e h. absurd (let x = h in cc)) clause_law
     (λ k a own h. let p = clause_first k a own h in (p.0, p.1, p.2, ap (λ x. Ok x) (kind_of_word k p.0 p.3))) clause_numbered))
+
+-- ---- a function
+
+output_law : {Before : Option Token → Type 0} → Lawful Before output_if_there_at (Optional IsOutputSettings) (OptionalStops (is_keyword (codes "SETTINGS")) Anyhow)
+unfolding output_if_there_at
+output_law = optional (is_keyword (codes "SETTINGS")) (λ a own h. keyword_first (codes "SETTINGS") a own h) output_settings_law
+
+pub function_law : {Before : Option Token → Type 0} → Lawful Before written_function_at IsWrittenFunction FunctionStops
+unfolding written_function_at
+function_law = then (source_law Function) (λ source. made (written_function source) FunctionStops (λ a o s. s) (λ a o s. s) output_law)

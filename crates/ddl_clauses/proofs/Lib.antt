@@ -3,3 +3,4 @@ mod Wholes
 mod Chosen
 mod SettingLaws
 mod ClauseLaws
+mod Answers

@@ -1,13 +1,17 @@
 -- The grammar of the clauses: which tokens are which clauses.
-use Rattle.std.specs.Prelude.{◌≡◌, ℕ, Bool, true, false, IsTrue, List, [], ◌∷◌, codes, Option, Some, None, Result}
+use Rattle.std.specs.Prelude.{◌≡◌, ℕ, Bool, true, false, IsTrue, List, [], ◌∷◌, ◌++◌, codes, Option, Some, None, Result}
+use Rattle.std.specs.Prelude.{Ok, Err}
+use Rattle.dict_value.specs.Memory.{UnlessNoMemory}
+use Rattle.ddl_tokens.specs.declared.fault.ReadFault.{ReadFault}
+use Rattle.ddl_tokens.specs.declared.fault.ReadFault.TheVariants as fault
 use Rattle.dict_schema.specs.declared.definition.Kind.{Kind}
 use Rattle.dict_schema.specs.declared.definition.Lifetime.{Lifetime}
 use Rattle.dict_schema.specs.declared.definition.RangeOf.{RangeOf}
 use Rattle.ddl_tokens.specs.declared.token.TokenKind.{TokenKind}
 use Rattle.ddl_tokens.specs.declared.fault.SyntaxFault.TheVariants.{Unexpected, UnknownSetting, Unsupported}
 use Rattle.ddl_tokens.specs.Tokens.{Token}
-use Rattle.ddl_tokens.specs.Reading.{is_name, is_number, is_string, is_the_sign}
-use Rattle.ddl_tokens.specs.Laws.{Grammar, Stopping, IsOne, IsKeyword, IsSign, IsBytes, Then, Either, Made, Optional}
+use Rattle.ddl_tokens.specs.Reading.{is_keyword, is_name, is_number, is_string}
+use Rattle.ddl_tokens.specs.Laws.{Grammar, Stopping, Anyhow, Begins, OptionalStops, first, IsOne, IsKeyword, IsSign, IsBytes, Then, Either, Made, Optional}
 use Rattle.ddl_tokens.specs.Lists.{InAnyOrder}
 use Rattle.ddl_clauses.specs.declared.settings.SettingName.{SettingName}
 use Rattle.ddl_clauses.specs.declared.settings.Form.{Form}
@@ -23,8 +27,6 @@ use Rattle.ddl_clauses.specs.declared.clause.Clause.TheVariants as clause
 use Rattle.ddl_clauses.specs.declared.clause.ClauseKind.{ClauseKind}
 use Rattle.ddl_clauses.specs.declared.clause.ClauseKind.TheVariants as kind
 use Rattle.ddl_clauses.specs.declared.clause.RangeNames.{RangeNames}
-use Rattle.ddl_clauses.specs.declared.parts.DictionaryParts.{DictionaryParts}
-use Rattle.ddl_clauses.specs.declared.parts.FunctionParts.{FunctionParts}
 use Rattle.ddl_clauses.specs.declared.clause.WrittenLayout.{WrittenLayout}
 use Rattle.ddl_clauses.specs.declared.clause.WrittenSource.{WrittenSource}
 use Rattle.ddl_clauses.specs.Settings.{setting_number, setting_text, form_of, group_of, takes, wanted_settings, source_section}
@@ -35,7 +37,6 @@ use Rattle.ddl_clauses.specs.Layouts.{all_layouts, layout_named, layout_section}
 use Rattle.ddl_clauses.specs.SettingLists.{setting, number_of_setting, wanted_numbers, has_field_for_lag}
 use Rattle.ddl_clauses.specs.Clauses.{source, layout, lifetime, range, or_empty, has_some, clause_number, number_of_clause}
 use Rattle.ddl_clauses.specs.Clauses.{wanted_clauses, clause_kind, WrittenFunction, written_function}
-use Rattle.ddl_clauses.specs.Parts.{dictionary_parts, function_parts}
 
 -- one token of some kind, whose bytes mean this value
 abbrev pub IsChosen : {A : Type 0} → (TokenKind → Bool) → Meaning A → Grammar A
@@ -177,15 +178,24 @@ abbrev pub NoClauseFollows : {A : Type 0} → Stopping A
 NoClauseFollows a None = Unit {0}
 NoClauseFollows a (Some t) = clause_kind t ≡ None
 
--- what the clauses of a dictionary say
-abbrev pub AreDictionaryParts : Grammar DictionaryParts
-AreDictionaryParts = Made dictionary_parts AreDictionaryClauses
-
 -- the source of a function [ SETTINGS .. ]
 abbrev pub IsWrittenFunction : Grammar WrittenFunction
-IsWrittenFunction =
-    Then (IsSource Function) (λ source. Made (written_function source) (Optional IsOutputSettings))
+IsWrittenFunction = Then (IsSource Function) (λ source. Made (written_function source) (Optional IsOutputSettings))
 
--- what they say
-abbrev pub AreFunctionParts : Grammar FunctionParts
-AreFunctionParts = Made function_parts IsWrittenFunction
+-- without SETTINGS it stops where that doesn't follow
+abbrev pub FunctionStops : Stopping WrittenFunction
+FunctionStops written next = OptionalStops (is_keyword (codes "SETTINGS")) Anyhow written.output next
+
+-- ---- what a call answers that reads a written thing and says what it says
+
+-- the tokens begin with a thing that says this, and these are behind it
+abbrev pub BeginsSaying : {A B : Type 0} → (A → B) → Grammar A → Stopping A → List Token → List Token → B → Type 0
+BeginsSaying {A = A} saying Own Stops tokens rest b =
+    (a : A) × (b ≡ saying a) × Begins Own Stops tokens a rest
+
+-- tokens that begin with a thing are read as that, up to its end
+abbrev pub ReadsOnly : {A B : Type 0} → (A → B) → Grammar A → Stopping A → List Token → List Token → Result B ReadFault
+    → Type 0
+ReadsOnly {A = A} saying Own Stops tokens left result =
+    (a : A) (own rest : List Token) → tokens ≡ own ++ rest → Own a own → Stops a (first rest)
+    → UnlessNoMemory (Err fault.NoMemory) result ((result ≡ Ok (saying a)) × (left ≡ rest))

@@ -6,12 +6,14 @@ ghost use Rattle.ddl_clauses.specs.Settings.{wanted_settings};
 ghost use Rattle.ddl_clauses.specs.Clauses.{or_empty, has_some, clause_number, number_of_clause, wanted_clauses};
 ghost use Rattle.ddl_clauses.specs.Reading.{short_at, source_at, layout_settings_at, layout_at, min_max_at, max_min_at};
 ghost use Rattle.ddl_clauses.specs.Reading.{bounds_at, lifetime_at, range_at, output_settings_at, comment_at};
+ghost use Rattle.ddl_clauses.specs.Reading.{output_if_there_at, dictionary_clauses_at, function_clauses_at};
 ghost use Rattle.ddl_clauses.specs.Reading.{dictionary_clause_at, clause_kind_ahead, next_dictionary_clause};
 
 use crate::choices::{self, source_kind, whole, word};
 use crate::clause::{Clause, ClauseKind, RangeNames, WrittenLayout, WrittenSource};
 use crate::layouts::{layout_name, layout_section};
 use crate::lists::settings_in_brackets;
+use crate::parts::{self, DictionaryParts, FunctionParts};
 use crate::settings::{Owner, Section, Setting, source_section};
 use ddl_tokens::{ReadFault, Reader, SyntaxFault};
 use dict_schema::Lifetime;
@@ -20,7 +22,7 @@ use std::alloc::Global;
 
 /// A source with its keyword.
 #[tactic(auto, unfolding(crate::specs::Reading::source_at))]
-pub(crate) fn source(
+fn source(
     alloc: Global,
     owner: Owner,
     r: &mut Reader<'_>,
@@ -165,7 +167,7 @@ fn range(alloc: Global, r: &mut Reader<'_>) -> Result<RangeNames, ReadFault>
 
 /// The bound on an output, with its keyword.
 #[tactic(auto, unfolding(crate::specs::Reading::output_settings_at))]
-pub(crate) fn output_settings(alloc: Global, r: &mut Reader<'_>) -> Result<u64, ReadFault>
+fn output_settings(alloc: Global, r: &mut Reader<'_>) -> Result<u64, ReadFault>
     ensures value { Gives (λ output. output) result r.new (output_settings_at r.old) }
     ensures shorter { OnOk result (length r.new < length r.old) }
 {
@@ -176,6 +178,18 @@ pub(crate) fn output_settings(alloc: Global, r: &mut Reader<'_>) -> Result<u64, 
     let output = whole(alloc, r)?;
     r.sign(b')')?;
     Ok(output)
+}
+
+/// The bound on an output with its keyword, where it stands there.
+#[tactic(auto, unfolding(crate::specs::Reading::output_if_there_at))]
+fn output_if_there(alloc: Global, r: &mut Reader<'_>) -> Result<Option<u64>, ReadFault>
+    ensures value { Gives (λ output. output) result r.new (output_if_there_at r.old) }
+    ensures shorter { OnOk result (length r.new ≤ length r.old) }
+{
+    if !r.sees_keyword(b"SETTINGS") {
+        return Ok(None);
+    }
+    Ok(Some(output_settings(alloc, r)?))
 }
 
 /// A comment with its keyword.
@@ -300,7 +314,7 @@ fn next_clause(
 
 /// The clauses of a dictionary, up to the token that begins none.
 #[tactic(auto, using(ddl_tokens::proofs::Loops::begins, ddl_tokens::proofs::Loops::goes))]
-pub(crate) fn more_clauses(
+fn more_clauses(
     alloc: Global,
     r: &mut Reader<'_>,
     mut clauses: ListOf<Clause>,
@@ -310,4 +324,31 @@ pub(crate) fn more_clauses(
 {
     while next_clause(alloc, r, &mut clauses)? {}
     Ok(clauses)
+}
+
+/// The clauses of a dictionary, and what they say.
+#[tactic(auto, unfolding(crate::specs::Reading::dictionary_clauses_at))]
+pub(crate) fn dictionary_clauses(
+    alloc: Global,
+    r: &mut Reader<'_>,
+) -> Result<DictionaryParts, ReadFault>
+    ensures value { Gives (λ parts. parts) result r.new (dictionary_clauses_at r.old) }
+    ensures shorter { OnOk result (length r.new ≤ length r.old) }
+{
+    let clauses = more_clauses(alloc, r, ListOf::new(alloc))?;
+    Ok(parts::dictionary_parts(alloc, clauses.as_slice())?)
+}
+
+/// The source of a function and its settings, and what they say.
+#[tactic(auto, unfolding(crate::specs::Reading::function_clauses_at, crate::specs::Reading::written_function_at))]
+pub(crate) fn function_clauses(
+    alloc: Global,
+    r: &mut Reader<'_>,
+) -> Result<FunctionParts, ReadFault>
+    ensures value { Gives (λ parts. parts) result r.new (function_clauses_at r.old) }
+    ensures shorter { OnOk result (length r.new < length r.old) }
+{
+    let source = source(alloc, Owner::Function, r)?;
+    let output = output_if_there(alloc, r)?;
+    Ok(parts::function_parts(alloc, &source, output)?)
 }
