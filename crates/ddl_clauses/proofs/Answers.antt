@@ -24,9 +24,11 @@ module _ {A B : Type 0} {read : List Token → Read A} {Own : A → List Token �
   said_found : (result : Result B ReadFault) → Gives (λ b. b) result rest said_at → IfOk result (BeginsSaying saying Own Stops ts rest)
   said_found (Ok b) h =
       let x = bind_ok (read ts) (λ x. Ok (saying x.0, x.1)) (b, rest) (h (λ e. absurd cc)) in
-      let same = ok_is (saying x.0.0, x.0.1) (b, rest) x.2 in
-      (x.0.0, sym (ap (λ (y : B × List Token). y.0) same),
-      subst (λ (us : List Token). Begins Own Stops ts x.0.0 us) (ap (λ (y : B × List Token). y.1) same) (F.found ts x.0.0 x.0.1 tt x.1))
+      let same = ok_is (saying x.0.0, x.0.1) (b, rest) x.2 in (
+        x.0.0,
+        sym (ap (λ (y : B × List Token). y.0) same),
+        subst (λ (us : List Token). Begins Own Stops ts x.0.0 us) (ap (λ (y : B × List Token). y.1) same) (F.found ts x.0.0 x.0.1 tt x.1),
+      )
   said_found (Err e) h = tt
 
   said_only : (result : Result B ReadFault) → Gives (λ b. b) result rest said_at → ReadsOnly saying Own Stops ts rest result

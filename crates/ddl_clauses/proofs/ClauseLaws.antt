@@ -30,8 +30,9 @@ use Rattle.ddl_clauses.specs.Choices.{chosen_at, meant_by, source_kind_in, whole
 use Rattle.ddl_clauses.specs.Layouts.{all_layouts, layout_named, layout_section}
 use Rattle.ddl_clauses.specs.SettingLists.{settings_in_brackets_at}
 use Rattle.ddl_clauses.specs.Clauses.{source, layout, lifetime, range, or_empty, has_some, clause_number, number_of_clause, wanted_clauses, clause_kind, written_function}
-use Rattle.ddl_clauses.specs.Reading.{short_at, source_at, layout_settings_at, layout_at, min_max_at, max_min_at, bounds_at, lifetime_at, range_at, output_settings_at, comment_at, dictionary_clause_at, clause_kind_ahead, next_dictionary_clause, output_if_there_at, written_function_at}
-use Rattle.ddl_clauses.specs.Grammar.{IsChosen, IsWholeUpTo, AreSettingsInBrackets, IsSource, LeftOutUnless, IsLayout, IsMinMax, IsMaxMin, AreBounds, IsLifetime, IsRange, IsOutputSettings, IsComment, IsDictionaryClause, AreDictionaryClauses, NoClauseFollows, IsWrittenFunction, FunctionStops}
+use Rattle.ddl_clauses.specs.Reading.{dictionary_clauses_at, short_at, source_at, layout_settings_at, layout_at, min_max_at, max_min_at, bounds_at, lifetime_at, range_at, output_settings_at, comment_clause_at, dictionary_clause_at, clause_kind_ahead, next_dictionary_clause, output_if_there_at, written_function_at}
+use Rattle.ddl_clauses.specs.Grammar.{IsChosen, IsWholeUpTo, AreSettingsInBrackets, IsSource, LeftOutUnless, IsLayout, IsMinMax, IsMaxMin, AreBounds, IsLifetime, IsRange, IsOutputSettings, IsCommentClause, IsDictionaryClause, AreDictionaryClauses, NoClauseFollows, IsWrittenFunction, FunctionStops}
+use Rattle.ddl_clauses.specs.Parts.{dictionary_parts}
 use Rattle.ddl_clauses.proofs.Chosen.{chosen, meant_placed}
 use Rattle.ddl_clauses.proofs.SettingLaws.{word_law, whole_law, brackets_law}
 
@@ -191,8 +192,8 @@ output_settings_law =
     then (whole_law most_whole refl) (λ output.
     made (λ _. output) Anyhow (λ x o s. tt) (λ x o s. tt) (sign 41))))))
 
-comment_law : {Before : Option Token → Type 0} → Lawful Before comment_at IsComment Anyhow
-unfolding comment_at
+comment_law : {Before : Option Token → Type 0} → Lawful Before comment_clause_at IsCommentClause Anyhow
+unfolding comment_clause_at
 comment_law = then (keyword (codes "COMMENT")) (λ _. made (λ comment. comment) Anyhow (λ x o s. tt) (λ x o s. tt) (bytes is_string String refl))
 
 -- ---- any of them
@@ -286,3 +287,17 @@ output_law = optional (is_keyword (codes "SETTINGS")) (λ a own h. keyword_first
 pub function_law : {Before : Option Token → Type 0} → Lawful Before written_function_at IsWrittenFunction FunctionStops
 unfolding written_function_at
 function_law = then (source_law Function) (λ source. made (written_function source) FunctionStops (λ a o s. s) (λ a o s. s) output_law)
+
+-- ---- what is said by them
+
+same_stop : (a : List Clause) (o : Option Token) → NoClauseFollows a o → NoClauseFollows (dictionary_parts a) o
+same_stop a None h = tt
+same_stop a (Some t) h = h
+
+same_stop_back : (a : List Clause) (o : Option Token) → NoClauseFollows (dictionary_parts a) o → NoClauseFollows a o
+same_stop_back a None h = tt
+same_stop_back a (Some t) h = h
+
+pub dictionary_clauses_law : {Before : Option Token → Type 0} → Lawful Before dictionary_clauses_at (Made dictionary_parts AreDictionaryClauses) NoClauseFollows
+unfolding dictionary_clauses_at
+dictionary_clauses_law = made dictionary_parts NoClauseFollows same_stop same_stop_back written_clauses_law

@@ -2,5 +2,5 @@ mod Ahead
 mod Wholes
 mod Chosen
 mod SettingLaws
-mod ClauseLaws
+pub mod ClauseLaws
 mod Answers

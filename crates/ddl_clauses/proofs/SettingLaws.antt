@@ -28,10 +28,10 @@ use Rattle.ddl_clauses.specs.declared.settings.Section.TheVariants as section
 use Rattle.ddl_clauses.specs.declared.settings.SettingValue.{SettingValue}
 use Rattle.ddl_clauses.specs.declared.settings.SettingValue.TheVariants as value
 use Rattle.ddl_clauses.specs.declared.settings.Setting.{Setting}
-use Rattle.ddl_clauses.specs.Settings.{setting_number, setting_text, all_settings, form_of, group_of, takes, wanted_settings}
+use Rattle.ddl_clauses.specs.Settings.{setting_number, setting_text, all_settings, form_of, group_of, has_group, wanted_settings}
 use Rattle.ddl_clauses.specs.Choices.{chosen_at, meant_by, or_fault, unless_true, no_flag_meant, is_written, is_plain_value, flag_in, format_in, strategy_in, whole_in, most_whole, most_short, bare_name_in, word_in}
 use Rattle.ddl_clauses.specs.SettingLists.{setting, setting_at, setting_value_at, setting_named, if_taken, taken_setting, number_of_setting, has_setting, wanted_numbers, or_unknown, setting_kind_at, next_setting, has_field_for_lag, if_passing, settings_at, settings_in_brackets_at}
-use Rattle.ddl_clauses.specs.Grammar.{IsChosen, IsWholeUpTo, IsSettingValue, IsSetting, Taken, AreSettings, AreSettingsInBrackets}
+use Rattle.ddl_clauses.specs.Grammar.{IsChosen, IsWholeUpTo, IsSettingValue, IsSetting, SettingOf, AreSettings, AreSettingsInBrackets}
 use Rattle.ddl_clauses.proofs.Chosen.{chosen, meant_placed, tested_law}
 
 -- ---- one setting
@@ -116,22 +116,22 @@ name_found n text s = finds (setting_number n) n all_settings text (numbered_nam
 
 module _ (section : Section) where
   -- the setting, where the list takes it
-  pick_if : (n : SettingName) (b : Bool) → takes section (group_of n) ≡ b → Option (Taken section)
-  pick_if n true e = Some (record { name = n; taken = e })
+  pick_if : (n : SettingName) (b : Bool) → has_group section (group_of n) ≡ b → Option (SettingOf section)
+  pick_if n true e = Some (record { name = n; own = e })
   pick_if n false e = None
 
-  from_picked : ℕ → Option (Taken section) → Kind (Taken section)
+  from_picked : ℕ → Option (SettingOf section) → Kind (SettingOf section)
   from_picked p None = Err (UnknownSetting p)
   from_picked p (Some k) = Ok (Some k)
 
-  from_named : ℕ → Option SettingName → Kind (Taken section)
+  from_named : ℕ → Option SettingName → Kind (SettingOf section)
   from_named p None = Err (UnknownSetting p)
-  from_named p (Some n) = from_picked p (pick_if n (takes section (group_of n)) refl)
+  from_named p (Some n) = from_picked p (pick_if n (has_group section (group_of n)) refl)
 
-  taken_kind : Token → Kind (Taken section)
+  taken_kind : Token → Kind (SettingOf section)
   taken_kind t = cond (is_name t.kind) (from_named t.place (setting_named all_settings t.bytes)) (Ok None)
 
-  abbrev number_of_taken : Taken section → ℕ
+  abbrev number_of_taken : SettingOf section → ℕ
   number_of_taken k = setting_number k.name
 
   abbrev taken_step : Step (List Setting)
@@ -139,11 +139,11 @@ module _ (section : Section) where
 
   -- ---- the step of the reader is that of the law
 
-  forget : Option (Taken section) → Kind SettingName
+  forget : Option (SettingOf section) → Kind SettingName
   forget None = Ok None
   forget (Some k) = Ok (Some k.name)
 
-  picked_is : (p : ℕ) (n : SettingName) (b : Bool) (e : takes section (group_of n) ≡ b) → or_unknown p (cond b (Some n) None) ≡ (from_picked p (pick_if n b e) >>= forget)
+  picked_is : (p : ℕ) (n : SettingName) (b : Bool) (e : has_group section (group_of n) ≡ b) → or_unknown p (cond b (Some n) None) ≡ (from_picked p (pick_if n b e) >>= forget)
   unfolding pick_if from_picked forget
   picked_is p n true e = refl
   picked_is p n false e = refl
@@ -151,7 +151,7 @@ module _ (section : Section) where
   named_is : (p : ℕ) (o : Option SettingName) → or_unknown p (if_taken section o) ≡ (from_named p o >>= forget)
   unfolding from_named
   named_is p None = refl
-  named_is p (Some n) = picked_is p n (takes section (group_of n)) refl
+  named_is p (Some n) = picked_is p n (has_group section (group_of n)) refl
 
   chosen_is : (b : Bool) (p : ℕ) (o : Option SettingName) → cond {A = Kind SettingName} b (or_unknown p (if_taken section o)) (Ok None) ≡ (cond b (from_named p o) (Ok None) >>= forget)
   unfolding forget
@@ -163,8 +163,8 @@ module _ (section : Section) where
   kind_is [] = refl
   kind_is (t ∷ ts) = chosen_is (is_name t.kind) t.place (setting_named all_settings t.bytes)
 
-  once_is : (before : List Setting) (ts : List Token) (r : Kind (Taken section)) → ((r >>= forget) >>= λ o. once_of setting_at setting_number number_of_setting (wanted_numbers section) before ts o)
-      ≡ (r >>= λ o. once_of (λ (k : Taken section). setting_at k.name) number_of_taken number_of_setting (wanted_numbers section) before ts o)
+  once_is : (before : List Setting) (ts : List Token) (r : Kind (SettingOf section)) → ((r >>= forget) >>= λ o. once_of setting_at setting_number number_of_setting (wanted_numbers section) before ts o)
+      ≡ (r >>= λ o. once_of (λ (k : SettingOf section). setting_at k.name) number_of_taken number_of_setting (wanted_numbers section) before ts o)
   unfolding forget
   once_is before ts (Ok None) = refl
   once_is before ts (Ok (Some k)) = refl
@@ -176,9 +176,9 @@ module _ (section : Section) where
 
   -- ---- each begins with its own name
 
-  pick_is : (k : Taken section) (b : Bool) (e : takes section (group_of k.name) ≡ b) → b ≡ true → pick_if k.name b e ≡ Some k
+  pick_is : (k : SettingOf section) (b : Bool) (e : has_group section (group_of k.name) ≡ b) → b ≡ true → pick_if k.name b e ≡ Some k
   unfolding pick_if
-  pick_is k true e t = ap (λ (x : takes section (group_of k.name) ≡ true). Some (record { name = k.name; taken = x })) (Bool-set _ _ e k.taken)
+  pick_is k true e t = ap (λ (x : has_group section (group_of k.name) ≡ true). Some (record { name = k.name; own = x })) (Bool-set _ _ e k.own)
   pick_is k false e t = absurd cc
 
   meant_word : (p : ℕ) (word text : List ℕ) (x : Unit {0}) → meant_by UnknownSetting (word_in word) p text ≡ Ok x → same_letters Any text word ≡ true
@@ -187,28 +187,31 @@ module _ (section : Section) where
     at true e = refl
     at false e = absurd cc
 
-  headed : (k : Taken section) (a : Setting) (own : List Token) → IsSetting k.name a own → (t : Token) × (rest : List Token) × (own ≡ t ∷ rest) × (taken_kind t ≡ Ok (Some k))
+  headed : (k : SettingOf section) (a : Setting) (own : List Token) → IsSetting k.name a own → (t : Token) × (rest : List Token) × (own ≡ t ∷ rest) × (taken_kind t ≡ Ok (Some k))
   unfolding taken_kind from_named from_picked
   headed k a own h =
       let one = h.before in
       let t = one.token in
       elim (test_cases (is_name t.kind) _ _ _ one.fine) [
         | inl x ↦
-            let found = name_found k.name t.bytes (meant_word t.place (setting_text k.name) t.bytes h.value x.1) in
-            (t, h.back, h.parts ∙ ap (λ (ts : List Token). ts ++ h.back) one.parts,
-            cond-true (is_name t.kind) _ _ x.0 ∙ ap (from_named t.place) found
-            ∙ ap (from_picked t.place) (pick_is k (takes section (group_of k.name)) refl k.taken))
+            let found = name_found k.name t.bytes (meant_word t.place (setting_text k.name) t.bytes h.value x.1) in (
+              t,
+              h.back,
+              h.parts ∙ ap (λ (ts : List Token). ts ++ h.back) one.parts,
+              cond-true (is_name t.kind) _ _ x.0 ∙ ap (from_named t.place) found
+                  ∙ ap (from_picked t.place) (pick_is k (has_group section (group_of k.name)) refl k.own),
+            )
         | inr x ↦ absurd (let y = x.1 in cc)
       ]
 
-  numbered : (k : Taken section) (a : Setting) (own : List Token) → IsSetting k.name a own → number_of_setting a ≡ number_of_taken k
+  numbered : (k : SettingOf section) (a : Setting) (own : List Token) → IsSetting k.name a own → number_of_setting a ≡ number_of_taken k
   numbered k a own h = ap number_of_setting h.behind.is
 
   named_placed : (p : ℕ) (o : Option SettingName) (e : SyntaxFault) → from_named p o ≡ Err e → p ≡ place_of e
   unfolding from_named from_picked
   named_placed p None e h = let k : UnknownSetting p ≡ e = cc in ap place_of k
-  named_placed p (Some n) e h = at (pick_if n (takes section (group_of n)) refl) h where
-    at : (o : Option (Taken section)) → from_picked p o ≡ Err e → p ≡ place_of e
+  named_placed p (Some n) e h = at (pick_if n (has_group section (group_of n)) refl) h where
+    at : (o : Option (SettingOf section)) → from_picked p o ≡ Err e → p ≡ place_of e
     at None h = let k : UnknownSetting p ≡ e = cc in ap place_of k
     at (Some k) h = absurd cc
 
@@ -228,8 +231,8 @@ module _ (section : Section) where
   never_none : (p : ℕ) (o : Option SettingName) → from_named p o ≡ Ok None → ⊥
   unfolding from_named from_picked
   never_none p None h = absurd cc
-  never_none p (Some n) h = at (pick_if n (takes section (group_of n)) refl) h where
-    at : (o : Option (Taken section)) → from_picked p o ≡ Ok None → ⊥
+  never_none p (Some n) h = at (pick_if n (has_group section (group_of n)) refl) h where
+    at : (o : Option (SettingOf section)) → from_picked p o ≡ Ok None → ⊥
     at None h = absurd cc
     at (Some k) h = absurd cc
 
@@ -283,18 +286,18 @@ module _ (section : Section) where
   lag_is_update _ e = absurd cc
 
   -- where a lag stands, the list takes what an update takes
-  lag_is_taken : (a b : List Setting) (ts : List Token) → Many Adds a b ts → (has_setting name.UpdateLag a ≡ true → takes section group.Update ≡ true) → has_setting name.UpdateLag b ≡ true → takes section group.Update ≡ true
+  lag_is_taken : (a b : List Setting) (ts : List Token) → Many Adds a b ts → (has_setting name.UpdateLag a ≡ true → has_group section group.Update ≡ true) → has_setting name.UpdateLag b ≡ true → has_group section group.Update ≡ true
   lag_is_taken a b ts (none e h) k l = k (subst (λ (x : List Setting). has_setting name.UpdateLag x ≡ true) (sym e) l)
   lag_is_taken a b ts (more {b = c} {rest = rest} e x m) k l =
       lag_is_taken c b rest m (λ h. elim (was_there number_of_setting (setting_number name.UpdateLag) a x.item (subst (λ (y : List Setting). has_setting name.UpdateLag y ≡ true) x.new h)) [
         | inl y ↦ k y
-        | inr y ↦ subst (λ (g : _). takes section g ≡ true) (lag_is_update x.kind.name (sym (numbered x.kind x.item _ x.fits) ∙ y)) x.kind.taken
+        | inr y ↦ subst (λ (g : _). has_group section g ≡ true) (lag_is_update x.kind.name (sym (numbered x.kind x.item _ x.fits) ∙ y)) x.kind.own
       ]) l
 
   abbrev Listed : List Setting → List Token → Type 0
   Listed = InAnyOrder number_of_taken number_of_setting (λ k. IsSetting k.name) (wanted_numbers section)
 
-  no_lag_there : has_setting name.UpdateLag [] ≡ true → takes section group.Update ≡ true
+  no_lag_there : has_setting name.UpdateLag [] ≡ true → has_group section group.Update ≡ true
   unfolding has_number
   no_lag_there e = absurd cc
 
@@ -304,23 +307,25 @@ module _ (section : Section) where
     | inr e ↦ elim (test_cases (has_setting name.UpdateLag a) _ _ _ e) [
       | inr x ↦ absurd (let y = x.1 in cc)
       | inl x ↦
-          let k : Taken section = record { name = name.UpdateField; taken = lag_is_taken [] a own h.0 no_lag_there x.0 } in
+          let k : SettingOf section = record { name = name.UpdateField; own = lag_is_taken [] a own h.0 no_lag_there x.0 } in
           let s = (setting_law {Before = λ _. Unit {0}} name.UpdateField).some in
-          let adds : Adds a (a ++ s.0 ∷ []) s.1 = record { kind = k; item = s.0; new = refl; once = x.1; fits = s.2 } in
-          (a ++ s.0 ∷ [], s.1,
-          (many_then Adds [] a (a ++ s.0 ∷ []) own s.1 h.0 (more (sym (append-nil s.1)) adds (none refl refl)), all_stay number_of_setting (wanted_numbers section) a s.0 h.1),
-          cond-true (has_setting name.UpdateLag (a ++ s.0 ∷ [])) _ _ (stays number_of_setting (setting_number name.UpdateLag) a s.0 x.0)
-          ∙ there number_of_setting (setting_number name.UpdateField) a s.0 (numbered k s.0 s.1 s.2))
+          let adds : Adds a (a ++ s.0 ∷ []) s.1 = record { kind = k; item = s.0; new = refl; once = x.1; fits = s.2 } in (
+            a ++ s.0 ∷ [],
+            s.1,
+            (many_then Adds [] a (a ++ s.0 ∷ []) own s.1 h.0 (more (sym (append-nil s.1)) adds (none refl refl)), all_stay number_of_setting (wanted_numbers section) a s.0 h.1),
+            cond-true (has_setting name.UpdateLag (a ++ s.0 ∷ [])) _ _ (stays number_of_setting (setting_number name.UpdateLag) a s.0 x.0)
+                ∙ there number_of_setting (setting_number name.UpdateField) a s.0 (numbered k s.0 s.1 s.2),
+          )
     ]
   ]
 
 -- the wanted settings, which the list takes
-wanted_taken : (s : Section) → List (Taken s)
-wanted_taken section.Executable = record { name = name.Command; taken = refl } ∷ record { name = name.Format; taken = refl } ∷ []
-wanted_taken section.Pool = record { name = name.Command; taken = refl } ∷ record { name = name.Format; taken = refl } ∷ []
-wanted_taken section.FunctionExecutable = record { name = name.Command; taken = refl } ∷ record { name = name.Format; taken = refl } ∷ []
-wanted_taken section.FunctionPool = record { name = name.Command; taken = refl } ∷ record { name = name.Format; taken = refl } ∷ []
-wanted_taken section.Cache = record { name = name.SizeInCells; taken = refl } ∷ []
+wanted_taken : (s : Section) → List (SettingOf s)
+wanted_taken section.Executable = record { name = name.Command; own = refl } ∷ record { name = name.Format; own = refl } ∷ []
+wanted_taken section.Pool = record { name = name.Command; own = refl } ∷ record { name = name.Format; own = refl } ∷ []
+wanted_taken section.FunctionExecutable = record { name = name.Command; own = refl } ∷ record { name = name.Format; own = refl } ∷ []
+wanted_taken section.FunctionPool = record { name = name.Command; own = refl } ∷ record { name = name.Format; own = refl } ∷ []
+wanted_taken section.Cache = record { name = name.SizeInCells; own = refl } ∷ []
 wanted_taken _ = []
 
 wanted_are : (s : Section) → map (number_of_taken s) (wanted_taken s) ≡ wanted_numbers s
@@ -333,7 +338,7 @@ unfolding settings_at
 settings_law {Before = Before} s =
     let any : Lawful Before (repeat (next_setting s) []) (Listed s) (Halts s) =
     subst (λ (step : Step (List Setting)). Lawful Before (repeat step []) (Listed s) (Halts s)) (fun_ext (λ before. fun_ext (λ ts. step_is s before ts)))
-    (subst (λ (ns : List ℕ). Lawful Before (repeat (next_once (taken_kind s) (λ (k : Taken s). setting_at k.name) (number_of_taken s) number_of_setting ns) []) (InAnyOrder (number_of_taken s) number_of_setting (λ (k : Taken s). IsSetting k.name) ns) (Halts s)) (wanted_are s)
+    (subst (λ (ns : List ℕ). Lawful Before (repeat (next_once (taken_kind s) (λ (k : SettingOf s). setting_at k.name) (number_of_taken s) number_of_setting ns) []) (InAnyOrder (number_of_taken s) number_of_setting (λ (k : SettingOf s). IsSetting k.name) ns) (Halts s)) (wanted_are s)
     (stopping (λ a own o h x. halts s a o x) (λ a own o h x. begins_none s a o x)
     (in_any_order (wanted_taken s) (kind_placed s) (λ k. setting_law k.name) (headed s) (numbered s)))) in
     tested_law has_field_for_lag any (completes s)

@@ -29,7 +29,7 @@ use Rattle.ddl_clauses.specs.declared.clause.ClauseKind.TheVariants as kind
 use Rattle.ddl_clauses.specs.declared.clause.RangeNames.{RangeNames}
 use Rattle.ddl_clauses.specs.declared.clause.WrittenLayout.{WrittenLayout}
 use Rattle.ddl_clauses.specs.declared.clause.WrittenSource.{WrittenSource}
-use Rattle.ddl_clauses.specs.Settings.{setting_number, setting_text, form_of, group_of, takes, wanted_settings, source_section}
+use Rattle.ddl_clauses.specs.Settings.{setting_number, setting_text, form_of, group_of, has_group, wanted_settings, source_section}
 use Rattle.ddl_clauses.specs.Choices.{Meaning, choice, meant_by, is_written, is_plain_value, flag_in, no_flag_meant}
 use Rattle.ddl_clauses.specs.Choices.{format_in, strategy_in, whole_in, most_whole, most_short, bare_name_in}
 use Rattle.ddl_clauses.specs.Choices.{source_kind_in, word_in}
@@ -65,15 +65,15 @@ IsSetting name =
     Made (setting name) (IsSettingValue (form_of name)))
 
 -- a setting that a list takes
-pub record Taken (section : Section) : Type 0 where
+pub record SettingOf (section : Section) : Type 0 where
   pub name : SettingName
-  pub taken : IsTrue (takes section (group_of name))
+  pub own : IsTrue (has_group section (group_of name))
 
 -- settings that a list takes in any order, each at most once, and each wanted one; a lag only beside an update field
 abbrev pub AreSettings : Section → Grammar (List Setting)
 AreSettings section settings ts =
-    InAnyOrder (λ (k : Taken section). setting_number k.name) number_of_setting (λ k. IsSetting k.name)
-        (wanted_numbers section) settings ts
+    InAnyOrder (λ (k : SettingOf section). setting_number k.name) number_of_setting (λ k. IsSetting k.name)
+    (wanted_numbers section) settings ts
     × (has_field_for_lag settings ≡ true)
 
 abbrev pub AreSettingsInBrackets : Section → Grammar (List Setting)
@@ -157,8 +157,8 @@ IsOutputSettings =
     Made (λ _. output) (IsSign 41))))))
 
 -- COMMENT string
-abbrev pub IsComment : Grammar (List ℕ)
-IsComment = Then (IsKeyword (codes "COMMENT")) (λ _. Made (λ comment. comment) (IsBytes is_string))
+abbrev pub IsCommentClause : Grammar (List ℕ)
+IsCommentClause = Then (IsKeyword (codes "COMMENT")) (λ _. Made (λ comment. comment) (IsBytes is_string))
 
 -- a clause of a dictionary
 abbrev pub IsDictionaryClause : ClauseKind → Grammar Clause
@@ -167,7 +167,7 @@ IsDictionaryClause kind.Layout = Made clause.Layout IsLayout
 IsDictionaryClause kind.Lifetime = Made clause.Lifetime IsLifetime
 IsDictionaryClause kind.Range = Made clause.Range IsRange
 IsDictionaryClause kind.Settings = Made clause.Settings IsOutputSettings
-IsDictionaryClause kind.Comment = Made clause.Comment IsComment
+IsDictionaryClause kind.Comment = Made clause.Comment IsCommentClause
 
 -- in any order, each at most once
 abbrev pub AreDictionaryClauses : Grammar (List Clause)

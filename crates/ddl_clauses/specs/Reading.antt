@@ -117,8 +117,8 @@ output_settings_at ts = do
   Ok (output.0, end.1)
 
 -- COMMENT string
-unfoldable pub comment_at : List Token → Read (List ℕ)
-comment_at ts = do
+unfoldable pub comment_clause_at : List Token → Read (List ℕ)
+comment_clause_at ts = do
   word ← keyword_at (codes "COMMENT") ts
   comment ← bytes_at is_string word.1
   Ok (comment.0, comment.1)
@@ -130,7 +130,7 @@ dictionary_clause_at kind.Layout ts = layout_at ts >>= λ x. Ok (clause.Layout x
 dictionary_clause_at kind.Lifetime ts = lifetime_at ts >>= λ x. Ok (clause.Lifetime x.0, x.1)
 dictionary_clause_at kind.Range ts = range_at ts >>= λ x. Ok (clause.Range x.0, x.1)
 dictionary_clause_at kind.Settings ts = output_settings_at ts >>= λ x. Ok (clause.Settings x.0, x.1)
-dictionary_clause_at kind.Comment ts = comment_at ts >>= λ x. Ok (clause.Comment x.0, x.1)
+dictionary_clause_at kind.Comment ts = comment_clause_at ts >>= λ x. Ok (clause.Comment x.0, x.1)
 
 -- the kind of the clause that the token in hand begins
 unfoldable pub clause_kind_ahead : List Token → Option ClauseKind

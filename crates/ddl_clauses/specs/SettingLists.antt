@@ -16,7 +16,7 @@ use Rattle.ddl_clauses.specs.declared.settings.Section.{Section}
 use Rattle.ddl_clauses.specs.declared.settings.SettingValue.{SettingValue}
 use Rattle.ddl_clauses.specs.declared.settings.SettingValue.TheVariants as value
 use Rattle.ddl_clauses.specs.declared.settings.Setting.{Setting}
-use Rattle.ddl_clauses.specs.Settings.{setting_number, setting_text, all_settings, form_of, group_of, takes, wanted_settings}
+use Rattle.ddl_clauses.specs.Settings.{setting_number, setting_text, all_settings, form_of, group_of, has_group, wanted_settings}
 use Rattle.ddl_clauses.specs.Choices.{chosen_at, meant_by, is_written, is_plain_value, flag_in, no_flag_meant, format_in}
 use Rattle.ddl_clauses.specs.Choices.{strategy_in, whole_in, most_whole, most_short, bare_name_in, word_in}
 
@@ -30,7 +30,7 @@ setting_named (name ∷ others) bytes =
 
 abbrev pub if_taken : Section → Option SettingName → Option SettingName
 if_taken section None = None
-if_taken section (Some name) = if takes section (group_of name) then Some name else None
+if_taken section (Some name) = if has_group section (group_of name) then Some name else None
 
 -- the setting of a list that bytes name
 unfoldable pub taken_setting : Section → List ℕ → Option SettingName

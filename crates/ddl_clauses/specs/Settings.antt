@@ -117,21 +117,21 @@ group_of name.UpdateQueue = group.Cache
 
 -- ---- each list: the groups that it takes, and the settings that it wants
 
-abbrev pub takes : Section → Group → Bool
-takes section.Executable group.Run = true
-takes section.Executable group.Implicit = true
-takes section.Executable group.Update = true
-takes section.Pool group.Run = true
-takes section.Pool group.Implicit = true
-takes section.Pool group.Pool = true
-takes section.FunctionExecutable group.Run = true
-takes section.FunctionPool group.Run = true
-takes section.FunctionPool group.Pool = true
-takes section.Flat group.Flat = true
-takes section.Hashed group.Hashed = true
-takes section.Range group.Range = true
-takes section.Cache group.Cache = true
-takes _ _ = false
+abbrev pub has_group : Section → Group → Bool
+has_group section.Executable group.Run = true
+has_group section.Executable group.Implicit = true
+has_group section.Executable group.Update = true
+has_group section.Pool group.Run = true
+has_group section.Pool group.Implicit = true
+has_group section.Pool group.Pool = true
+has_group section.FunctionExecutable group.Run = true
+has_group section.FunctionPool group.Run = true
+has_group section.FunctionPool group.Pool = true
+has_group section.Flat group.Flat = true
+has_group section.Hashed group.Hashed = true
+has_group section.Range group.Range = true
+has_group section.Cache group.Cache = true
+has_group _ _ = false
 
 abbrev pub wanted_of_source : List SettingName
 wanted_of_source = name.Command ∷ name.Format ∷ []

@@ -30,10 +30,7 @@ use std::alloc::Global;
 
 /// The clauses of a dictionary, up to the token that begins none.
 #[tactic(auto, using(crate::proofs::Answers::clauses_found, crate::proofs::Answers::clauses_least))]
-pub fn dictionary_clauses(
-    alloc: Global,
-    r: &mut Reader<'_>,
-) -> Result<DictionaryParts, ReadFault>
+pub fn dictionary_clauses(alloc: Global, r: &mut Reader<'_>) -> Result<DictionaryParts, ReadFault>
     // What is read is in the grammar.
     ensures found { IfOk result (BeginsSaying dictionary_parts AreDictionaryClauses NoClauseFollows r.old r.new) }
     // What is in the grammar is read, and as nothing else.
@@ -62,3 +59,6 @@ pub fn function_clauses(alloc: Global, r: &mut Reader<'_>) -> Result<FunctionPar
 {
     reading::function_clauses(alloc, r)
 }
+
+#[cfg(test)]
+mod tests;

@@ -9,8 +9,8 @@ ghost use Rattle.ddl_clauses.specs.SettingLists.{settings_at, settings_in_bracke
 
 use crate::choices::{bare_name, flag, format, no_flag, short, strategy, whole, word};
 use crate::settings::{
-    Form, Section, Setting, SettingName, SettingValue, form_of, group_of, setting_number,
-    setting_text, takes,
+    Form, Section, Setting, SettingName, SettingValue, form_of, group_of, has_group,
+    setting_number, setting_text,
 };
 use ddl_tokens::{LetterCase, ReadFault, Reader, SyntaxFault};
 use dict_value::ListOf;
@@ -69,7 +69,7 @@ fn taken_setting(section: Section, r: &Reader<'_>) -> Option<SettingName>
     let Some(name) = any_setting(r) else {
         return None;
     };
-    if takes(section, group_of(name)) {
+    if has_group(section, group_of(name)) {
         Some(name)
     } else {
         None
@@ -131,10 +131,9 @@ fn has_wanted(section: Section, settings: &[Setting]) -> bool
     ensures { result ≡ has_all number_of_setting (wanted_numbers section) settings.now }
 {
     match section {
-        Section::Executable
-        | Section::Pool
-        | Section::FunctionExecutable
-        | Section::FunctionPool => has_setting(SettingName::Command, settings) && has_setting(SettingName::Format, settings),
+        Section::Executable | Section::Pool | Section::FunctionExecutable | Section::FunctionPool =>
+            has_setting(SettingName::Command, settings)
+                && has_setting(SettingName::Format, settings),
         Section::Cache => has_setting(SettingName::SizeInCells, settings),
         Section::Flat | Section::Hashed | Section::Range | Section::Bare => true,
     }
@@ -186,7 +185,8 @@ fn more_settings(
 fn has_field_for_lag(settings: &[Setting]) -> bool
     ensures { result ≡ has_field_for_lag settings.now }
 {
-    !has_setting(SettingName::UpdateLag, settings) || has_setting(SettingName::UpdateField, settings)
+    !has_setting(SettingName::UpdateLag, settings)
+        || has_setting(SettingName::UpdateField, settings)
 }
 
 /// The settings of a list, up to the token that is no name.

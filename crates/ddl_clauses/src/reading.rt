@@ -5,7 +5,7 @@ ghost use Rattle.ddl_tokens.specs.Lists.{GivesStep, has_all, has_number, repeat}
 ghost use Rattle.ddl_clauses.specs.Settings.{wanted_settings};
 ghost use Rattle.ddl_clauses.specs.Clauses.{or_empty, has_some, clause_number, number_of_clause, wanted_clauses};
 ghost use Rattle.ddl_clauses.specs.Reading.{short_at, source_at, layout_settings_at, layout_at, min_max_at, max_min_at};
-ghost use Rattle.ddl_clauses.specs.Reading.{bounds_at, lifetime_at, range_at, output_settings_at, comment_at};
+ghost use Rattle.ddl_clauses.specs.Reading.{bounds_at, lifetime_at, range_at, output_settings_at, comment_clause_at};
 ghost use Rattle.ddl_clauses.specs.Reading.{output_if_there_at, dictionary_clauses_at, function_clauses_at};
 ghost use Rattle.ddl_clauses.specs.Reading.{dictionary_clause_at, clause_kind_ahead, next_dictionary_clause};
 
@@ -22,11 +22,7 @@ use std::alloc::Global;
 
 /// A source with its keyword.
 #[tactic(auto, unfolding(crate::specs::Reading::source_at))]
-fn source(
-    alloc: Global,
-    owner: Owner,
-    r: &mut Reader<'_>,
-) -> Result<WrittenSource, ReadFault>
+fn source(alloc: Global, owner: Owner, r: &mut Reader<'_>) -> Result<WrittenSource, ReadFault>
     ensures value { Gives (λ source. source) result r.new (source_at owner r.old) }
     ensures shorter { OnOk result (length r.new < length r.old) }
 {
@@ -193,9 +189,9 @@ fn output_if_there(alloc: Global, r: &mut Reader<'_>) -> Result<Option<u64>, Rea
 }
 
 /// A comment with its keyword.
-#[tactic(auto, unfolding(crate::specs::Reading::comment_at))]
+#[tactic(auto, unfolding(crate::specs::Reading::comment_clause_at))]
 fn comment(alloc: Global, r: &mut Reader<'_>) -> Result<Bytes, ReadFault>
-    ensures value { Gives (λ comment. comment) result r.new (comment_at r.old) }
+    ensures value { Gives (λ comment. comment) result r.new (comment_clause_at r.old) }
     ensures shorter { OnOk result (length r.new < length r.old) }
 {
     r.keyword(b"COMMENT")?;

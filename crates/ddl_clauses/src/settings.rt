@@ -1,6 +1,6 @@
 // The settings of sources and layouts: what they are named, and which list takes which.
 ghost use Rattle.std.specs.Prelude.{◌≡◌};
-ghost use Rattle.ddl_clauses.specs.Settings.{setting_number, setting_text, form_of, group_of, takes, source_section};
+ghost use Rattle.ddl_clauses.specs.Settings.{setting_number, setting_text, form_of, group_of, has_group, source_section};
 
 use dict_schema::{Format, Kind, Strategy};
 use dict_value::Bytes;
@@ -168,7 +168,8 @@ pub(crate) fn form_of(name: SettingName) -> Form
     match name {
         SettingName::Command => Form::Text,
         SettingName::Format => Form::Format,
-        SettingName::ExecuteDirect | SettingName::ImplicitKey | SettingName::SendChunkHeader => Form::Flag,
+        SettingName::ExecuteDirect | SettingName::ImplicitKey | SettingName::SendChunkHeader =>
+            Form::Flag,
         SettingName::ReadTimeout
         | SettingName::WriteTimeout
         | SettingName::TerminationTimeout
@@ -205,13 +206,14 @@ pub(crate) fn group_of(name: SettingName) -> Group
         SettingName::InitialArraySize | SettingName::MaxArraySize => Group::Flat,
         SettingName::Preallocate | SettingName::Shards | SettingName::ShardBacklog => Group::Hashed,
         SettingName::RangeStrategy => Group::Range,
-        SettingName::SizeInCells | SettingName::ReadExpired | SettingName::UpdateQueue => Group::Cache,
+        SettingName::SizeInCells | SettingName::ReadExpired | SettingName::UpdateQueue =>
+            Group::Cache,
     }
 }
 
 /// Whether a list takes the settings of a group.
-pub(crate) fn takes(section: Section, group: Group) -> bool
-    ensures { result ≡ takes section group }
+pub(crate) fn has_group(section: Section, group: Group) -> bool
+    ensures { result ≡ has_group section group }
 {
     match section {
         Section::Executable => matches!(group, Group::Run | Group::Implicit | Group::Update),
