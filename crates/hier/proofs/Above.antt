@@ -1,0 +1,34 @@
+-- The members above another.
+use Rattle.std.proofs.Common.{◌≡◌, ℕ, zero, suc, ◌+◌, ◌-◌, ◌<◌, ◌≤◌, List, length, get_or, refl, ap, arith, sym, ◌∙◌, subst}
+use Rattle.hier.specs.Members.{above}
+
+pub above-none : (ups : List ℕ) (member : ℕ) → above ups 0 member ≡ member
+unfolding above
+above-none ups member = refl
+
+pub above-suc : (ups : List ℕ) (count member : ℕ) → above ups (suc count) member ≡ get_or ups (above ups count member) 0 - 1
+unfolding above
+above-suc ups count member = refl
+
+pub above-more : (ups : List ℕ) (count member : ℕ) → above ups (count + 1) member ≡ get_or ups (above ups count member) 0 - 1
+above-more ups count member =
+    let e : suc count ≡ count + 1 = omega arith in
+    subst (λ n. above ups n member ≡ get_or ups (above ups count member) 0 - 1) e (above-suc ups count member)
+
+-- those above one that is above
+pub above-add : (ups : List ℕ) (member i j : ℕ) → above ups (i + j) member ≡ above ups j (above ups i member)
+above-add ups member i zero =
+    let e : i ≡ i + 0 = omega arith in
+    subst (λ n. above ups n member ≡ above ups 0 (above ups i member)) e (sym (above-none ups (above ups i member)))
+above-add ups member i (suc j) =
+    let e : i + j + 1 ≡ i + suc j = omega arith in
+    subst (λ n. above ups n member ≡ above ups (suc j) (above ups i member)) e
+    (above-more ups (i + j) member ∙ (ap (λ m. get_or ups m 0 - 1) (above-add ups member i j) ∙ sym (above-suc ups j (above ups i member))))
+
+-- the first step
+pub above-front : (ups : List ℕ) (member j : ℕ) → above ups (suc j) member ≡ above ups j (get_or ups member 0 - 1)
+above-front ups member j =
+    let e : 1 + j ≡ suc j = omega arith in
+    let one : above ups 1 member ≡ get_or ups member 0 - 1 = above-suc ups 0 member ∙ ap (λ m. get_or ups m 0 - 1) (above-none ups member) in
+    subst (λ n. above ups n member ≡ above ups j (get_or ups member 0 - 1)) e
+    (above-add ups member 1 j ∙ ap (λ m. above ups j m) one)

@@ -1,0 +1,6 @@
+-- Lemmas of this crate.
+pub mod Above
+pub mod Lists
+pub mod Nexts
+pub mod Rows
+pub mod Walks
