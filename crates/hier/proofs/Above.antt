@@ -1,6 +1,6 @@
 -- The members above another.
 use Rattle.std.proofs.Common.{◌≡◌, ℕ, zero, suc, ◌+◌, ◌-◌, ◌<◌, ◌≤◌, List, length, get_or, refl, ap, arith, sym, ◌∙◌, subst}
-use Rattle.hier.specs.Members.{above}
+use Rattle.hier.specs.Members.{IsSound, above}
 
 pub above-none : (ups : List ℕ) (member : ℕ) → above ups 0 member ≡ member
 unfolding above
@@ -32,3 +32,16 @@ above-front ups member j =
     let one : above ups 1 member ≡ get_or ups member 0 - 1 = above-suc ups 0 member ∙ ap (λ m. get_or ups m 0 - 1) (above-none ups member) in
     subst (λ n. above ups n member ≡ above ups j (get_or ups member 0 - 1)) e
     (above-add ups member 1 j ∙ ap (λ m. above ups j m) one)
+
+-- the members of a chain are members
+pub sound-within : (members ups lengths firsts nexts : List ℕ) → IsSound members ups lengths firsts nexts → (start i : ℕ) → start < length members → i < get_or lengths start 0 → above ups i start < length members
+sound-within members ups lengths firsts nexts s start zero l h = subst (λ m. m < length members) (sym (above-none ups start)) l
+sound-within members ups lengths firsts nexts s start (suc i) l h =
+    let m = above-suc ups i start in
+    let u = s.linked start i (omega arith) in
+    let most = s.up (above ups i start) in
+    omega (arith, m, u, most)
+
+-- the next member of a chain
+pub above-next : (ups : List ℕ) (start at place : ℕ) → at ≡ above ups place start → get_or ups at 0 - 1 ≡ above ups (place + 1) start
+above-next ups start at place is = ap (λ m. get_or ups m 0 - 1) is ∙ sym (above-more ups place start)

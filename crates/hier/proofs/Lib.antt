@@ -1,5 +1,7 @@
 -- Lemmas of this crate.
 pub mod Above
+pub mod ChainMembers
+pub mod Chains
 pub mod Lists
 pub mod Nexts
 pub mod Rows

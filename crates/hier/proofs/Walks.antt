@@ -474,8 +474,8 @@ pub none-counted : (ups rows : List ℕ) → AreCounted ups rows (replicate (len
 none-counted ups rows =
     let all = zeros-at in
     record {
-      lengths_len = length-replicate (length ups) 0;
-      places_len = length-replicate (length ups) 0;
+      lengths_len = length-replicate {A = ℕ} (length ups) 0;
+      places_len = length-replicate {A = ℕ} (length ups) 0;
       counted = λ member long. let z = all (length ups) member in absurd (omega (arith, z, long));
       closed = λ member i l. let z = all (length ups) member in absurd (omega (arith, z, l));
       rowless = λ member r. all (length ups) member;
@@ -483,7 +483,7 @@ none-counted ups rows =
       bound = λ member.
           let z = all (length ups) member in
           let m = zeros-most (replicate (length ups) 0) in
-          let l = length-replicate (length ups) 0 in
+          let l = length-replicate {A = ℕ} (length ups) 0 in
           omega (arith, z, m, l);
       done = λ member l. absurd (omega (arith, l));
     }

@@ -32,6 +32,7 @@ pub record IsSound (members ups lengths firsts nexts : List ℕ) : Type 0 where
   pub firsts_len : length firsts ≡ length members
   pub nexts_len : length nexts ≡ length members
   pub up : (member : ℕ) → slice_index ups member ≤ length members
+  pub most : (member : ℕ) → slice_index lengths member ≤ length members
   pub linked : (member i : ℕ) → i + 1 < slice_index lengths member → 0 < slice_index ups (above ups i member)
   pub first : (member : ℕ) → member < length members → TellsNext ups 0 (member + 1) (slice_index firsts member)
   pub next : (member : ℕ) → member < length members → 0 < slice_index ups member
@@ -47,7 +48,7 @@ Reaches ups member zero other = other ≡ member
 Reaches ups member (suc level) other =
     (other ≢ member) × (other < length ups) × (0 < slice_index ups other) × Reaches ups member level (slice_index ups other - 1)
 
--- at a level, from 1; level 0 stands for all
+-- at a level, from 1; level 0 stands for all of 32 bits
 abbrev pub IsFoundAt : List ℕ → ℕ → ℕ → ℕ → Type 0
-IsFoundAt ups member zero other = (level : ℕ) × (0 < level) × Reaches ups member level other
+IsFoundAt ups member zero other = (level : ℕ) × (0 < level) × (level < 2 ^ 32) × Reaches ups member level other
 IsFoundAt ups member (suc level) other = Reaches ups member (suc level) other

@@ -1,9 +1,10 @@
 // The hierarchy of a row list, and what is asked of it.
-ghost use Rattle.std.specs.Prelude.{◌≡◌, ◌↔◌, ◌<◌, ◌≤◌, ℕ, List, All, Contains, IfOk, IsTrue, OnOk, drop, length, map, slice_index};
+ghost use Rattle.std.specs.Prelude.{◌≡◌, ◌≢◌, ◌↔◌, [], ◌∷◌, ◌++◌, ◌^◌, ◌<◌, ◌≤◌, ℕ, List, All, IfOk, IsTrue, OnOk, length, map};
+ghost use Rattle.std.specs.Prelude.{slice_index};
 ghost use Rattle.dict_value.specs.declared.value.TheConstants.{MOST_ROWS};
 ghost use Rattle.hier.specs.Hierarchy.{IsChain, IsDescendant, IsIn, IsRisingListOf};
 ghost use Rattle.hier.specs.Members.{IsFoundAt, IsSound};
-ghost use Rattle.hier.specs.steps.Finding.{AddsBelow, AddsLevel};
+ghost use Rattle.hier.specs.steps.Finding.{AddsBelow, AddsLevel, IsSearched, StandsFrom};
 
 use crate::below::below_of;
 use crate::lengths::lengths_of;
@@ -111,15 +112,17 @@ impl Hier {
         let Some(of) = member_of(self.members.as_slice(), key) else {
             return Ok(ListOf::new(alloc));
         };
-        let found = self.found_at(alloc, of, level)?;
-        let keys = self.keys_of(alloc, found.as_slice())?;
+        let mut found = ListOf::new(alloc);
+        let from = self.find_below(&mut found, of, level)?;
+        let keys = self.keys_of(alloc, &found.as_slice()[from..])?;
         Ok(ListOf::from_vec(risen(keys)))
     }
 
     /// The keys of members.
     fn keys_of(&self, alloc: Global, numbers: &[u32]) -> Result<Vec<u64>, NoMemory>
         requires { All (λ number. number < length self.now.members.items) numbers.now }
-        ensures { IfOk result (λ keys. keys.items ≡ map (λ number. slice_index self.now.members.items number) numbers.now) }
+        ensures { IfOk result (λ keys. keys.items
+            ≡ map (λ number. slice_index self.now.members.items number) numbers.now) }
     {
         let Ok(mut keys) = Vec::with_capacity(alloc, numbers.len()) else {
             return Err(NoMemory);
@@ -132,55 +135,79 @@ impl Hier {
         Ok(keys)
     }
 
-    /// The members that are found below one at a level, or at all levels, by level 0.
-    fn found_at(&self, alloc: Global, of: usize, level: u32) -> Result<Vec<u32>, NoMemory>
-        requires { of < length self.now.members.items }
-        ensures { IfOk result (λ found. (other : ℕ) → Contains found.items other ↔ IsFoundAt self.now.ups.items of level other) }
+    /// Finds the members below one at a level, or at all levels, by level 0, and answers the place from which on
+    /// they stand.
+    fn find_below(&self, found: &mut ListOf<u32>, of: usize, level: u32) -> Result<usize, NoMemory>
+        requires of { of < length self.now.members.items }
+        requires none { found.old ≡ [] }
+        ensures { IfOk result (λ from. (from ≤ length found.new)
+            × ((other : ℕ) → StandsFrom found.new from other ↔ IsFoundAt self.now.ups.items of level other)) }
     {
-        let mut found = Vec::new(alloc);
-        self.push_below(&mut found, of, of)?;
+        if level == 0 {
+            self.find_levels(found, of, u32::MAX)?;
+            return Ok(0);
+        }
+        self.find_levels(found, of, level)
+    }
+
+    /// Finds the members below one at so many levels, and answers the place from which on those of the last
+    /// level stand.
+    fn find_levels(&self, found: &mut ListOf<u32>, of: usize, levels: u32) -> Result<usize, NoMemory>
+        requires of { of < length self.now.members.items }
+        requires none { found.old ≡ [] }
+        requires some { 0 < levels }
+        ensures { IfOk result (IsSearched self.now.ups.items of levels found.new) }
+    {
+        self.push_below(found, of, of)?;
         let mut from = 0;
-        let levels = if level == 0 { u32::MAX } else { level };
         for _ in 1..levels {
             let to = found.len();
             if from == to {
-                break;
+                return Ok(from);
             }
-            self.push_level(&mut found, from, of)?;
+            self.push_level(found, from, of)?;
             from = to;
         }
-        if level > 0 {
-            found.drain(..from);
-        }
-        Ok(found)
+        Ok(from)
     }
 
-    /// Appends the members below those from a place on, but for one.
-    fn push_level(&self, found: &mut Vec<u32>, from: usize, but: usize) -> Result<(), NoMemory>
-        requires within { All (λ number. number < length self.now.members.items) found.old.items }
-        requires from { from ≤ length found.old.items }
-        ensures { OnOk result (AddsLevel self.now.ups.items (drop from found.old.items) but found.old.items found.new.items) }
+    /// Appends the members below those that stand from a place on, but for one.
+    fn push_level(&self, found: &mut ListOf<u32>, from: usize, but: usize) -> Result<(), NoMemory>
+        requires within { (place : ℕ) → place < length found.old
+            → slice_index found.old place < length self.now.members.items }
+        requires from { from ≤ length found.old }
+        ensures { OnOk result (AddsLevel self.now.ups.items from (length found.old) but found.old found.new) }
     {
         for place in from..found.len() {
-            let of = found[place] as usize;
+            let of = found.as_slice()[place] as usize;
             self.push_below(found, of, but)?;
         }
         Ok(())
     }
 
     /// Appends the members below one, but for one.
-    fn push_below(&self, found: &mut Vec<u32>, of: usize, but: usize) -> Result<(), NoMemory>
+    fn push_below(&self, found: &mut ListOf<u32>, of: usize, but: usize) -> Result<(), NoMemory>
         requires { of < length self.now.members.items }
-        ensures { OnOk result (AddsBelow self.now.ups.items of but found.old.items found.new.items) }
+        ensures { OnOk result (AddsBelow self.now.ups.items of but found.old found.new) }
     {
         let mut cell = self.firsts[of];
         while cell != 0 {
             let member = (cell - 1) as usize;
-            if member != but && found.push(member as u32).is_err() {
-                return Err(NoMemory);
-            }
+            push_other(found, member, but)?;
             cell = self.nexts[member];
         }
         Ok(())
     }
+}
+
+/// Appends a member other than one.
+fn push_other(found: &mut ListOf<u32>, member: usize, but: usize) -> Result<(), NoMemory>
+    requires { member < 2 ^ 24 }
+    ensures same { member ≡ but → OnOk result (found.new ≡ found.old) }
+    ensures other { member ≢ but → OnOk result (found.new ≡ found.old ++ member ∷ []) }
+{
+    if member == but {
+        return Ok(());
+    }
+    found.push(member as u32)
 }

@@ -102,6 +102,7 @@ pub(crate) fn lengths_of(alloc: Global, ups: &[u32], rows: &[u32]) -> Result<Vec
     requires up { (member : ℕ) → slice_index ups.now member ≤ length ups.now }
     requires rows { length rows.now ≡ length ups.now }
     ensures len { IfOk result (λ lengths. length lengths.items ≡ length ups.now) }
+    ensures most { IfOk result (λ lengths. (member : ℕ) → slice_index lengths.items member ≤ length ups.now) }
     ensures rowless { IfOk result (λ lengths. (member : ℕ)
         → slice_index rows.now member ≡ 0 → slice_index lengths.items member ≡ 0) }
     ensures row { IfOk result (λ lengths. (member : ℕ) → member < length ups.now
