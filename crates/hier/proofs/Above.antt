@@ -1,6 +1,7 @@
 -- The members above another.
 use Rattle.std.proofs.Common.{◌≡◌, ℕ, zero, suc, ◌+◌, ◌-◌, ◌<◌, ◌≤◌, List, length, get_or, refl, ap, arith, sym, ◌∙◌, subst}
 use Rattle.hier.specs.Members.{IsSound, above}
+use Rattle.hier.proofs.Lists.{number-read}
 
 pub above-none : (ups : List ℕ) (member : ℕ) → above ups 0 member ≡ member
 unfolding above
@@ -45,3 +46,18 @@ sound-within members ups lengths firsts nexts s start (suc i) l h =
 -- the next member of a chain
 pub above-next : (ups : List ℕ) (start at place : ℕ) → at ≡ above ups place start → get_or ups at 0 - 1 ≡ above ups (place + 1) start
 above-next ups start at place is = ap (λ m. get_or ups m 0 - 1) is ∙ sym (above-more ups place start)
+
+-- a member of a chain, by the length that was read
+pub walk-within : (members ups lengths firsts nexts : List ℕ) → IsSound members ups lengths firsts nexts → (start at place long : ℕ) → start < length members
+    → long ≡ get_or lengths start long → place < long → at ≡ above ups place start → at < length members
+walk-within members ups lengths firsts nexts s start at place long inside read l is =
+    let len = number-read lengths start long (let n = s.lengths_len in omega (arith, n, inside)) read in
+    let within = sound-within members ups lengths firsts nexts s start place inside (omega (arith, len, l)) in
+    omega (arith, is, within)
+
+-- the next member, by the cell that was read
+pub walk-next : (members ups lengths firsts nexts : List ℕ) → IsSound members ups lengths firsts nexts → (start at place cell : ℕ) → at < length members
+    → cell ≡ get_or ups at cell → at ≡ above ups place start → cell - 1 ≡ above ups (place + 1) start
+walk-next members ups lengths firsts nexts s start at place cell within read is =
+    let u = number-read ups at cell (let n = s.ups_len in omega (arith, n, within)) read in
+    ap (λ k. k - 1) (sym u) ∙ above-next ups start at place is

@@ -5,7 +5,7 @@ use Rattle.std.proofs.Common.{◌≡◌, ◌≢◌, ◌⊎◌, ℕ, zero, suc, �
 use Rattle.std.proofs.lemmas.Bool.{cases_eq, cases_lt}
 use Rattle.std.proofs.lemmas.List.FromFn.{get_or-map-range_with_len, length-map-range_with_len, map-range_with_len_more}
 use Rattle.std.proofs.lemmas.Option.{get_or_from_slice_get, slice_get_within}
-use Rattle.hier.specs.Hierarchy.{HasRow, IsChain, IsDescendant, IsLast, IsParent, LongChainHas}
+use Rattle.hier.specs.Hierarchy.{HasRow, IsChain, IsDescendant, IsIn, IsLast, IsParent, LongChainHas}
 use Rattle.hier.specs.Kept.{IsHierOf}
 use Rattle.hier.specs.Members.{IsCounted, IsFoundAt, Reaches, above}
 use Rattle.hier.specs.declared.hier.Hier.{Hier}
@@ -308,3 +308,25 @@ pub walk_keys-more : (members ups : List ℕ) (start at count : ℕ) → at ≡ 
 walk_keys-more members ups start at count is =
     map-range_with_len_more (λ i. get_or members (above ups i start) 0) 0 count count (omega arith)
     ∙ ap (λ m. walk_keys members ups start count ++ get_or members m 0 ∷ []) (sym is)
+
+module _ (keys : List ℕ) (parents : List Parent) (hier : Hier) (h : IsHierOf keys parents hier) (start : ℕ) (inside : start < length hier.members.items) where
+  -- a member of the chain is in it
+  pub in-from : (ancestor place : ℕ) → place < get_or hier.lengths.items start 0 → get_or hier.members.items (above hier.ups.items place start) 0 ≡ ancestor → IsIn keys parents (get_or hier.members.items start 0) ancestor
+  in-from ancestor place l is =
+      (chain_of keys parents hier h start, chain-is keys parents hier h start inside, get-contains (chain_of keys parents hier h start) place ancestor (chain-at keys parents hier h start place l ∙ ap Some is))
+
+  -- a key in the chain is one of its members
+  pub in-to : (ancestor : ℕ) → IsIn keys parents (get_or hier.members.items start 0) ancestor → (place : ℕ) × (place < get_or hier.lengths.items start 0) × (get_or hier.members.items (above hier.ups.items place start) 0 ≡ ancestor)
+  in-to ancestor (chain, is, has) =
+      let same = chain-one keys parents (get_or hier.members.items start 0) chain (chain_of keys parents hier h start) is (chain-is keys parents hier h start inside) in
+      let at = contains-get (chain_of keys parents hier h start) ancestor (subst (λ (z : List ℕ). Contains z ancestor) same has) in
+      let q = chain-in keys parents hier h start at.0 ancestor at.1 in
+      (at.0, q.0, sym q.1)
+
+-- a key that is no member has nothing in its chain
+pub in-none : (keys : List ℕ) (parents : List Parent) (hier : Hier) → IsHierOf keys parents hier → (key ancestor : ℕ) → ¬ (Contains hier.members.items key) → IsIn keys parents key ancestor → ⊥
+in-none keys parents hier h key ancestor other (chain, is, has) =
+    let empty = is.none (λ row. other (h.each key row)) in
+    let at = contains-get [] ancestor (subst (λ (z : List ℕ). Contains z ancestor) empty has) in
+    let e = at.1 in
+    cc (e)

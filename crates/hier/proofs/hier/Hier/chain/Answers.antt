@@ -4,7 +4,7 @@ use Rattle.std.specs.List.Sorted.{IsStrictlyIncreasing}
 use Rattle.std.proofs.Common.{◌≡◌, ◌<◌, ◌≤◌, ◌+◌, ◌-◌, ◌∷◌, [], ◌++◌, ◌∙◌, ℕ, List, length, get_or, refl, ap, arith, subst, sym}
 use Rattle.hier.specs.Hierarchy.{IsChain}
 use Rattle.hier.specs.Members.{above}
-use Rattle.hier.proofs.Above.{above-next, above-none, sound-within}
+use Rattle.hier.proofs.Above.{above-none, walk-next, walk-within}
 use Rattle.hier.proofs.ChainMembers.{chain-is, no-chain, walk_keys, walk_keys-more}
 use Rattle.hier.proofs.Lists.{number-read}
 use Rattle.hier.proofs.hier.Hier.chain.Goals as goal
@@ -24,12 +24,9 @@ loop-place-init c = record {
 pub index-requires : goal.index-requires
 index-requires c =
     let it = c.args.self.now in
-    let members = it.members.items in
-    let inside : c.in-Some.start < length members = subst (λ (z : List ℕ). c.in-Some.start < length z) c.as_slice.ensures.value c.in-Some.ensures.found.0 in
-    let len = number-read it.lengths.items c.in-Some.start c.index-length.result.now (let l = it.sound.lengths_len in omega (arith, l, inside)) c.index-length.ensures in
-    let within = sound-within members it.ups.items it.lengths.items it.firsts.items it.nexts.items it.sound c.in-Some.start c.loop-place.place inside (let t = c.loop-place-test.true in omega (arith, len, t)) in
-    let at = c.loop-place.invariant.at c.loop-place-test.true in
-    omega (arith, at, within)
+    let inside : c.in-Some.start < length it.members.items = subst (λ (z : List ℕ). c.in-Some.start < length z) c.as_slice.ensures.value c.in-Some.ensures.found.0 in
+    let within = walk-within it.members.items it.ups.items it.lengths.items it.firsts.items it.nexts.items it.sound c.in-Some.start c.loop-place.at c.loop-place.place _ inside c.index-length.ensures c.loop-place-test.true (c.loop-place.invariant.at c.loop-place-test.true) in
+    omega (arith, within)
 
 pub loop-place-preserved : goal.loop-place-preserved
 loop-place-preserved c =
@@ -37,12 +34,11 @@ loop-place-preserved c =
     let members = it.members.items in
     let at = c.loop-place.invariant.at c.loop-place-test.true in
     let inside : c.in-Some.start < length members = subst (λ (z : List ℕ). c.in-Some.start < length z) c.as_slice.ensures.value c.in-Some.ensures.found.0 in
-    let len = number-read it.lengths.items c.in-Some.start c.index-length.result.now (let l = it.sound.lengths_len in omega (arith, l, inside)) c.index-length.ensures in
-    let within = sound-within members it.ups.items it.lengths.items it.firsts.items it.nexts.items it.sound c.in-Some.start c.loop-place.place inside (let t = c.loop-place-test.true in omega (arith, len, t)) in
-    let read = number-read members c.loop-place.at c.index.result.now (omega (arith, at, within)) c.index.ensures in
+    let within = walk-within members it.ups.items it.lengths.items it.firsts.items it.nexts.items it.sound c.in-Some.start c.loop-place.at c.loop-place.place _ inside c.index-length.ensures c.loop-place-test.true at in
+    let read = number-read members c.loop-place.at c.index.result.now within c.index.ensures in
     record {
       at = λ l. elim c.if-place-length.branch [
-        | then-place-length w ↦ ?
+        | then-place-length w ↦ w.at-is ∙ walk-next members it.ups.items it.lengths.items it.firsts.items it.nexts.items it.sound c.in-Some.start c.loop-place.at c.loop-place.place _ within w.index-then-place-length.ensures at
         | else-place-length w ↦ absurd (let most = w.if-place-length.false in omega (arith, most, l))
       ];
       keys = c.in_ok-push.ensures.ok
