@@ -2,6 +2,7 @@
 pub mod Above
 pub mod ChainMembers
 pub mod Chains
+pub mod Descendants
 pub mod Finds
 pub mod Lists
 pub mod Nexts

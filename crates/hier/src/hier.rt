@@ -160,7 +160,7 @@ impl Hier {
     {
         self.push_below(found, of, of)?;
         let mut from = 0;
-        for _ in 1..levels {
+        for level in 1..levels {
             let to = found.len();
             if from == to {
                 return Ok(from);

@@ -27,8 +27,11 @@ loop-cell-preserved c =
         subst (λ k. TellsNext ups (cell - 1 + 1) k c.index-cell-in-loop-cell.result.now) e
         (subst (TellsNext ups (cell - 1 + 1) (get_or ups (cell - 1) 0)) read (it.sound.next (cell - 1) member (omega (arith, e)))) in
     elim (cases_eq (cell - 1) c.args.but) [
-      | inl same ↦ ?
-      | inr other ↦ so-far-more ups c.args.of c.args.but c.args.found.now c.loop-cell.found c.push_other.new.found cell some other so c.index-cell-in-loop-cell.result.now ? told
+      | inl same ↦
+          subst (λ b. IsSoFar ups c.args.of b c.args.found.now c.push_other.new.found c.index-cell-in-loop-cell.result.now) same
+          (subst (λ (z : List ℕ). IsSoFar ups c.args.of (cell - 1) c.args.found.now z c.index-cell-in-loop-cell.result.now) (sym (c.in_ok-push_other.ensures.same same))
+          (so-far-skip ups c.args.of c.args.found.now c.loop-cell.found cell some (subst (λ b. IsSoFar ups c.args.of b c.args.found.now c.loop-cell.found cell) (sym same) so) c.index-cell-in-loop-cell.result.now told))
+      | inr other ↦ so-far-more ups c.args.of c.args.but c.args.found.now c.loop-cell.found c.push_other.new.found cell some other so c.index-cell-in-loop-cell.result.now (c.in_ok-push_other.ensures.other other) told
     ]
 
 pub returns : goal.returns
