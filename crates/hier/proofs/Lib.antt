@@ -1,5 +1,6 @@
 -- Lemmas of this crate.
 pub mod Above
+pub mod Built
 pub mod ChainMembers
 pub mod Chains
 pub mod Descendants
