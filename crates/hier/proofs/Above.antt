@@ -1,5 +1,5 @@
 -- The members above another.
-use Rattle.std.proofs.Common.{◌≡◌, ℕ, zero, suc, ◌+◌, ◌-◌, ◌<◌, ◌≤◌, List, length, get_or, refl, ap, arith, sym, ◌∙◌, subst}
+use Rattle.std.proofs.Common.{◌≡◌, ℕ, zero, suc, ◌+◌, ◌-◌, ◌<◌, List, length, get_or, refl, ap, arith, sym, ◌∙◌, subst}
 use Rattle.hier.specs.Members.{IsSound, above}
 use Rattle.hier.proofs.Lists.{number-read}
 

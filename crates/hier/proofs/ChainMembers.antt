@@ -1,18 +1,18 @@
 -- The members of a chain.
 use Rattle.std.specs.Prelude.{Contains}
 use Rattle.std.specs.List.{range_with_len, slice_get}
-use Rattle.std.proofs.Common.{◌≡◌, ◌≢◌, ◌⊎◌, ℕ, zero, suc, ◌+◌, ◌-◌, ◌^◌, ◌<◌, ◌≤◌, List, [], ◌∷◌, ◌++◌, length, map, get_or, Some, None, inl, inr, refl, ap, arith, sym, ◌∙◌, subst}
+use Rattle.std.proofs.Common.{◌≡◌, ◌≢◌, ℕ, zero, suc, ◌+◌, ◌-◌, ◌^◌, ◌<◌, ◌≤◌, List, [], ◌∷◌, ◌++◌, length, map, get_or, Some, inl, inr, refl, ap, arith, sym, ◌∙◌, subst}
 use Rattle.std.proofs.lemmas.Bool.{cases_eq, cases_lt}
 use Rattle.std.proofs.lemmas.List.FromFn.{get_or-map-range_with_len, length-map-range_with_len, map-range_with_len_more}
-use Rattle.std.proofs.lemmas.Option.{get_or_from_slice_get, slice_get_within}
-use Rattle.hier.specs.Hierarchy.{HasRow, IsChain, IsDescendant, IsIn, IsLast, IsParent, LongChainHas}
+use Rattle.std.proofs.lemmas.Option.{slice_get_within}
+use Rattle.hier.specs.Hierarchy.{HasRow, IsChain, IsIn, IsParent, LongChainHas}
 use Rattle.hier.specs.Kept.{IsHierOf}
-use Rattle.hier.specs.Members.{IsCounted, IsFoundAt, Reaches, above}
+use Rattle.hier.specs.Members.{Reaches, above}
 use Rattle.hier.specs.declared.hier.Hier.{Hier}
 use Rattle.hier.specs.declared.hier.Parent.{Parent}
 use Rattle.hier.proofs.Above.{above-front, above-more, above-none}
 use Rattle.hier.proofs.Chains.{chain-one, parent-one, parent-row}
-use Rattle.hier.proofs.Lists.{at-get, contains-at, contains-get, get-contains, rises-one}
+use Rattle.hier.proofs.Lists.{at-get, contains-get, get-contains, rises-one}
 
 -- the keys of the first members of a walk
 abbrev pub walk_keys : List ℕ → List ℕ → ℕ → ℕ → List ℕ
@@ -154,8 +154,7 @@ module _ (keys : List ℕ) (parents : List Parent) (hier : Hier) (h : IsHierOf k
     climbs of (suc level) other r =
         let next = up other - 1 in
         let below = climbs of level next r.3 in
-        let step : (i : ℕ) → w other (suc i) ≡ w next i = λ i. above-front hier.ups.items other i in
-        (
+        let step : (i : ℕ) → w other (suc i) ≡ w next i = λ i. above-front hier.ups.items other i in (
           λ i l. first (λ k. 0 < up (w other k)) i level (subst (λ m. 0 < up m) (sym (above-none hier.ups.items other)) r.2) (λ k less. subst (λ m. 0 < up m) (sym (step k)) (below.0 k less)) l,
           λ i l. first (λ k. w other k ≢ of) i level (λ e. r.0 (sym (above-none hier.ups.items other) ∙ e)) (λ k less e. below.1 k less (sym (step k) ∙ e)) l,
           step level ∙ below.2,
@@ -173,8 +172,7 @@ module _ (keys : List ℕ) (parents : List Parent) (hier : Hier) (h : IsHierOf k
         let step : (i : ℕ) → w other (suc i) ≡ w next i = λ i. above-front hier.ups.items other i in
         let u : 0 < up other = subst (λ m. 0 < up m) (above-none hier.ups.items other) (up_all 0 (omega arith)) in
         let most = hier.sound.up other in
-        let n = hier.sound.ups_len in
-        (
+        let n = hier.sound.ups_len in (
           λ e. new 0 (omega arith) (above-none hier.ups.items other ∙ e),
           omega (arith, l, n),
           u,
@@ -221,30 +219,33 @@ module _ (keys : List ℕ) (parents : List Parent) (hier : Hier) (h : IsHierOf k
     pub has-from : (of level : ℕ) → of < size → 0 < level → Reaches hier.ups.items of level start → LongChainHas keys parents (key_at start) level (key_at of)
     has-from of level lo some r =
         let c = climbs of level start r in
-        let most = level-most of level some r in
-        (chain_of start, chain-is, elim (cases_lt level (len start)) [
-          | inl inner ↦ inl (chain-at start level inner ∙ ap (λ m. Some (key_at m)) c.2)
-          | inr edge ↦
-              let e : level ≡ len start = omega (arith, most, edge) in
-              let n = chain-len start in
-              let l : level - 1 < len start = omega (arith, some, e) in
-              let back : level - 1 + 1 ≡ level = omega (arith, some) in
-              let i : level - 1 ≡ length (chain_of start) - 1 = omega (arith, n, e) in
-              let u : 0 < up (w start (level - 1)) = c.0 (level - 1) (omega (arith, some)) in
-              let p : IsParent keys parents (key_at (w start (level - 1))) (key_at of) =
-              subst (λ m. IsParent keys parents (key_at (w start (level - 1))) (key_at m)) (ap (w start) back ∙ c.2)
-              (h.up (w start (level - 1)) (w start (level - 1 + 1)) (w-within (level - 1) l) (above-is start (level - 1) u)) in
-              let long : 0 < len start = omega (arith, some, e) in
-              inr (
-                omega (arith, n, e),
-                λ row.
-                    let end : w start (len start) ≡ of = ap (w start) (sym e) ∙ c.2 in
-                    let u2 : 0 < up (w start (len start - 1)) = subst (λ k. 0 < up (w start (k - 1))) e u in
-                    let s = (h.counted start inside long).stops u2 (subst (λ m. 0 < len m) (sym end) (row-len of lo row)) in
-                    c.1 s.0 (let q = s.1 in omega (arith, q, e)) (sym s.2 ∙ end),
-                (key_at (w start (level - 1)), subst (λ k. slice_get (chain_of start) k ≡ Some (key_at (w start (level - 1)))) i (chain-at start (level - 1) l), p),
-              )
-        ])
+        let most = level-most of level some r in (
+          chain_of start,
+          chain-is,
+          elim (cases_lt level (len start)) [
+            | inl inner ↦ inl (chain-at start level inner ∙ ap (λ m. Some (key_at m)) c.2)
+            | inr edge ↦
+                let e : level ≡ len start = omega (arith, most, edge) in
+                let n = chain-len start in
+                let l : level - 1 < len start = omega (arith, some, e) in
+                let back : level - 1 + 1 ≡ level = omega (arith, some) in
+                let i : level - 1 ≡ length (chain_of start) - 1 = omega (arith, n, e) in
+                let u : 0 < up (w start (level - 1)) = c.0 (level - 1) (omega (arith, some)) in
+                let p : IsParent keys parents (key_at (w start (level - 1))) (key_at of) =
+                subst (λ m. IsParent keys parents (key_at (w start (level - 1))) (key_at m)) (ap (w start) back ∙ c.2)
+                (h.up (w start (level - 1)) (w start (level - 1 + 1)) (w-within (level - 1) l) (above-is start (level - 1) u)) in
+                let long : 0 < len start = omega (arith, some, e) in
+                inr (
+                  omega (arith, n, e),
+                  λ row.
+                      let end : w start (len start) ≡ of = ap (w start) (sym e) ∙ c.2 in
+                      let u2 : 0 < up (w start (len start - 1)) = subst (λ k. 0 < up (w start (k - 1))) e u in
+                      let s = (h.counted start inside long).stops u2 (subst (λ m. 0 < len m) (sym end) (row-len of lo row)) in
+                      c.1 s.0 (let q = s.1 in omega (arith, q, e)) (sym s.2 ∙ end),
+                  (key_at (w start (level - 1)), subst (λ k. slice_get (chain_of start) k ≡ Some (key_at (w start (level - 1)))) i (chain-at start (level - 1) l), p),
+                )
+          ],
+        )
 
     pub has-to : (of level : ℕ) → of < size → 0 < level → LongChainHas keys parents (key_at start) level (key_at of) → Reaches hier.ups.items of level start
     has-to of level lo some (chain, is, how) =

@@ -1,18 +1,11 @@
 -- Chains, as lists of keys and as members.
-use Rattle.std.specs.Prelude.{Contains}
-use Rattle.std.specs.List.{range_with_len, slice_get}
-use Rattle.std.proofs.Common.{◌≡◌, ◌≢◌, ◌⊎◌, ℕ, zero, suc, ◌+◌, ◌-◌, ◌<◌, ◌≤◌, List, [], ◌∷◌, length, map, get_or, Option, Some, None, inl, inr, refl, ap, arith, sym, ◌∙◌, subst}
+use Rattle.std.specs.List.{slice_get}
+use Rattle.std.proofs.Common.{◌≡◌, ◌≢◌, ◌⊎◌, ℕ, zero, suc, ◌+◌, ◌-◌, ◌<◌, List, [], ◌∷◌, length, Option, Some, None, inl, inr, refl, ap, arith, sym, ◌∙◌, subst}
 use Rattle.std.proofs.lemmas.Bool.{cases_eq, cases_lt}
-use Rattle.std.proofs.lemmas.List.FromFn.{get_or-map-range_with_len, length-map-range_with_len}
-use Rattle.std.proofs.lemmas.Option.{get_or_from_slice_get, slice_get_within}
-use Rattle.dict_value.specs.FindByKey.{HasKeyAt, IsLeastPlace}
+use Rattle.std.proofs.lemmas.Option.{slice_get_within}
 use Rattle.hier.specs.Hierarchy.{HasRow, IsChain, IsLast, IsParent}
-use Rattle.hier.specs.Kept.{IsHierOf}
-use Rattle.hier.specs.Members.{IsCounted, above}
-use Rattle.hier.specs.declared.hier.Hier.{Hier}
 use Rattle.hier.specs.declared.hier.Parent.{Parent}
-use Rattle.hier.proofs.Above.{above-more, above-none}
-use Rattle.hier.proofs.Lists.{at-get, contains-at, contains-get, get-contains, rises-one}
+use Rattle.hier.proofs.Lists.{contains-get}
 
 -- ---- a key has one parent, and one chain
 
@@ -57,6 +50,7 @@ module _ (keys : List ℕ) (parents : List Parent) where
     where
       there : slice_get b i ≡ Some member
       there = sym (same i (omega arith)) ∙ here
+
       found : (o : Option ℕ) → slice_get b (i + 1) ≡ o → slice_get b (i + 1) ≡ Some next
       found (Some other) is =
           is ∙ ap Some (parent-one member other next (q.goes i member other there is) (p.goes i member next here after))

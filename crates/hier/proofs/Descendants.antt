@@ -1,7 +1,7 @@
 -- Descendants, as keys and as members.
 use Rattle.std.specs.Prelude.{Contains, ◌↔◌}
 use Rattle.std.specs.List.{slice_get}
-use Rattle.std.proofs.Common.{◌≡◌, ℕ, zero, suc, ◌+◌, ◌-◌, ◌<◌, ◌≤◌, List, [], ◌∷◌, drop, length, map, get_or, Some, inl, inr, refl, ap, arith, sym, ◌∙◌, subst}
+use Rattle.std.proofs.Common.{◌≡◌, ℕ, zero, suc, ◌-◌, ◌<◌, List, [], drop, length, map, get_or, Some, inl, inr, arith, sym, subst}
 use Rattle.hier.specs.Hierarchy.{IsDescendant, IsRisingListOf, LongChainHas}
 use Rattle.hier.specs.Kept.{IsHierOf}
 use Rattle.hier.specs.Members.{IsFoundAt}
@@ -72,13 +72,12 @@ module _ (keys : List ℕ) (parents : List Parent) (hier : Hier) (h : IsHierOf k
     descendants-all level start found keys_found list told is r = record {
       rises = r.rises;
       each = λ n.
-          let s = keys-stand hier.members.items found keys_found start n is in
-          (
+          let s = keys-stand hier.members.items found keys_found start n is in (
             λ c.
-            let q = s.0 ((r.each n).0 c) in
-            subst (IsDescendant keys parents key level) q.2 (found-from level q.0 ((told q.0).0 q.1)),
+                let q = s.0 ((r.each n).0 c) in
+                subst (IsDescendant keys parents key level) q.2 (found-from level q.0 ((told q.0).0 q.1)),
             λ d.
-            let q = found-to level n d in
-            (r.each n).1 (s.1 (q.0, (told q.0).1 q.1, q.2)),
+                let q = found-to level n d in
+                (r.each n).1 (s.1 (q.0, (told q.0).1 q.1, q.2)),
           );
     }

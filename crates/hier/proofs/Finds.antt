@@ -1,12 +1,12 @@
 -- Searches for the members below others.
 use Rattle.std.specs.Prelude.{All, Contains, IfOk, Result, Ok, Err, ◌↔◌}
-use Rattle.std.proofs.Common.{◌≡◌, ◌≢◌, ◌⊎◌, ℕ, zero, suc, ◌+◌, ◌-◌, ◌<◌, ◌≤◌, List, [], ◌∷◌, ◌++◌, drop, length, map, take, get_or, inl, inr, refl, ap, arith, sym, ◌∙◌, subst, append_assoc, append-nil, length-append}
+use Rattle.std.proofs.Common.{◌≡◌, ◌≢◌, ℕ, zero, suc, ◌+◌, ◌-◌, ◌<◌, ◌≤◌, List, [], ◌∷◌, ◌++◌, drop, length, map, take, get_or, inl, inr, refl, ap, arith, sym, ◌∙◌, subst, append_assoc, append-nil, length-append}
 use Rattle.std.proofs.lemmas.Bool.{cases_eq, cases_lt}
 use Rattle.std.proofs.lemmas.Grind.{common_steps}
 use Rattle.std.proofs.lemmas.List.{get_or-append_right, get_or_append_left, get_or-drop, get_or-map, length-drop, length-map}
 use Rattle.std.proofs.lemmas.List.Elements.{All-from_get_or, Contains-append_cases, Contains-append_left, Contains-append_right, Contains-push, Contains-push_cases}
 use Rattle.hier.specs.Members.{IsBelow, IsFoundAt, Reaches, TellsNext}
-use Rattle.hier.specs.steps.Finding.{Adds, AddsBelow, AddsLevel, IsSearched, StandsFrom}
+use Rattle.hier.specs.steps.Finding.{AddsBelow, AddsLevel, IsSearched, StandsFrom}
 use Rattle.hier.proofs.Lists.{at-contains, contains-at}
 
 -- the members below one, up to a member, are appended
@@ -37,8 +37,7 @@ so-far-skip ups of old now cell some so next t = record {
   is = so.is;
   start = cell - 1 + 1;
   told = λ other.
-      let w = so.next.within some in
-      (
+      let w = so.next.within some in (
         λ h. let q = (so.told other).0 h in (let a = q.0 in let b = w.0 in omega (arith, a, b), q.1),
         λ h. (so.told other).1 (elim (cases_lt other so.start) [
           | inl before ↦ (before, h.1)
@@ -60,8 +59,7 @@ so-far-more ups of but old now new cell some other_one so next more t = record {
   start = cell - 1 + 1;
   told = λ other.
       let w = so.next.within some in
-      let here : IsBelow ups of (cell - 1) = ((let a = w.1 in omega (arith, a, some)), so.next.here some) in
-      (
+      let here : IsBelow ups of (cell - 1) = ((let a = w.1 in omega (arith, a, some)), so.next.here some) in (
         λ h. elim (Contains-push_cases so.tail (cell - 1) other h) [
           | inl before ↦ let q = (so.told other).0 before in (let a = q.0 in let b = w.0 in omega (arith, a, b), q.1)
           | inr same ↦ subst (λ m. (m < cell - 1 + 1) × ((m ≢ but) × IsBelow ups of m)) same (omega arith, (other_one, here))
@@ -78,14 +76,17 @@ so-far-more ups of but old now new cell some other_one so next more t = record {
 }
 
 pub so-far-all : (ups : List ℕ) (of but : ℕ) (old now : List ℕ) → IsSoFar ups of but old now 0 → AddsBelow ups of but old now
-so-far-all ups of but old now so =
-    (so.tail, so.is, λ other. (
-      λ h. ((so.told other).0 h).1,
-      λ h. (so.told other).1 (elim (cases_lt other so.start) [
-        | inl before ↦ (before, h)
-        | inr from ↦ absurd (so.next.none refl other from h.1.0 h.1.1)
-      ]),
-    ))
+so-far-all ups of but old now so = (
+  so.tail,
+  so.is,
+  λ other. (
+    λ h. ((so.told other).0 h).1,
+    λ h. (so.told other).1 (elim (cases_lt other so.start) [
+      | inl before ↦ (before, h)
+      | inr from ↦ absurd (so.next.none refl other from h.1.0 h.1.1)
+    ]),
+  ),
+)
 
 -- ---- members below those at places
 
@@ -95,19 +96,22 @@ level-none ups start but old =
 
 pub level-more : (ups : List ℕ) (start n but : ℕ) (old now new : List ℕ) → start ≤ n → n < length old → AddsLevel ups start n but old now
     → AddsBelow ups (get_or old n 0) but now new → AddsLevel ups start (n + 1) but old new
-level-more ups start n but old now new from l (tail, is, told) (more, js, below) =
-    (tail ++ more, js ∙ (ap (λ (z : List ℕ). z ++ more) is ∙ append_assoc old tail more), λ other. (
-      λ h. elim (Contains-append_cases tail more other h) [
-        | inl before ↦ let q = (told other).0 before in (q.0, (q.1.0, q.1.1, (let a = q.1.2 in omega (arith, a)), q.1.3))
-        | inr here ↦ let q = (below other).0 here in (q.0, (n, from, omega arith, q.1))
-      ],
-      λ h. elim (cases_lt h.1.0 n) [
-        | inl before ↦ Contains-append_left tail more other ((told other).1 (h.0, (h.1.0, h.1.1, before, h.1.3)))
-        | inr last ↦
-            let e : h.1.0 ≡ n = let a = h.1.2 in omega (arith, a, last) in
-            Contains-append_right tail more other ((below other).1 (h.0, subst (λ k. IsBelow ups (get_or old k 0) other) e h.1.3))
-      ],
-    ))
+level-more ups start n but old now new from l (tail, is, told) (more, js, below) = (
+  tail ++ more,
+  js ∙ (ap (λ (z : List ℕ). z ++ more) is ∙ append_assoc old tail more),
+  λ other. (
+    λ h. elim (Contains-append_cases tail more other h) [
+      | inl before ↦ let q = (told other).0 before in (q.0, (q.1.0, q.1.1, (let a = q.1.2 in omega (arith, a)), q.1.3))
+      | inr here ↦ let q = (below other).0 here in (q.0, (n, from, omega arith, q.1))
+    ],
+    λ h. elim (cases_lt h.1.0 n) [
+      | inl before ↦ Contains-append_left tail more other ((told other).1 (h.0, (h.1.0, h.1.1, before, h.1.3)))
+      | inr last ↦
+          let e : h.1.0 ≡ n = let a = h.1.2 in omega (arith, a, last) in
+          Contains-append_right tail more other ((below other).1 (h.0, subst (λ k. IsBelow ups (get_or old k 0) other) e h.1.3))
+    ],
+  ),
+)
 
 -- what stood there stands still
 pub stood : (ups : List ℕ) (start n but : ℕ) (old now : List ℕ) → AddsLevel ups start n but old now → (place : ℕ) → place < length old → (place < length now) × (get_or now place 0 ≡ get_or old place 0)
@@ -125,16 +129,18 @@ stands-contains found member = (
 
 stands-tail : (old tail new : List ℕ) (member : ℕ) → new ≡ old ++ tail → StandsFrom new (length old) member ↔ Contains tail member
 stands-tail old tail new member is =
-    let e = ap length is ∙ length-append old tail in
-    (
+    let e = ap length is ∙ length-append old tail in (
       λ h.
-      let l : h.0 - length old < length tail = let a = h.1 in let b = h.2 in omega (arith, a, b, e) in
-      at-contains tail (h.0 - length old) member l (sym (get_or-append_right old tail (length old) h.0 0 refl h.1) ∙ (ap (λ (z : List ℕ). get_or z h.0 0) (sym is) ∙ h.3)),
+          let l : h.0 - length old < length tail = let a = h.1 in let b = h.2 in omega (arith, a, b, e) in
+          at-contains tail (h.0 - length old) member l (sym (get_or-append_right old tail (length old) h.0 0 refl h.1) ∙ (ap (λ (z : List ℕ). get_or z h.0 0) (sym is) ∙ h.3)),
       λ h.
-      let a = contains-at tail member h in
-      let q : length old + a.0 - length old ≡ a.0 = omega arith in
-      (length old + a.0, omega arith, (let b = a.1 in omega (arith, b, e)),
-      ap (λ (z : List ℕ). get_or z (length old + a.0) 0) is ∙ (get_or-append_right old tail (length old) (length old + a.0) 0 refl (omega arith) ∙ (ap (λ k. get_or tail k 0) q ∙ a.2))),
+          let a = contains-at tail member h in
+          let q : length old + a.0 - length old ≡ a.0 = omega arith in (
+            length old + a.0,
+            omega arith,
+            (let b = a.1 in omega (arith, b, e)),
+            ap (λ (z : List ℕ). get_or z (length old + a.0) 0) is ∙ (get_or-append_right old tail (length old) (length old + a.0) 0 refl (omega arith) ∙ (ap (λ k. get_or tail k 0) q ∙ a.2)),
+          ),
     )
 
 -- ---- level by level
@@ -168,16 +174,16 @@ searched-more ups of n start found new s (tail, is, told) =
     let u : suc n ≡ n + 1 = omega arith in
     let len = ap length is ∙ length-append found tail in
     let to : (other : ℕ) → Contains tail other → Reaches ups of (n + 1) other = λ other h.
-        let q = (told other).0 h in
-        let place = q.1.0 in
-        let below = q.1.3 in
-        let up : get_or ups other 0 - 1 ≡ get_or found place 0 = let b = below.1 in omega (arith, b) in
-        let r = (s.last (get_or found place 0)).0 (place, q.1.1, q.1.2, refl) in
-        subst (λ k. Reaches ups of k other) u (q.0, below.0, (let b = below.1 in omega (arith, b)), subst (Reaches ups of n) (sym up) r) in
+    let q = (told other).0 h in
+    let place = q.1.0 in
+    let below = q.1.3 in
+    let up : get_or ups other 0 - 1 ≡ get_or found place 0 = let b = below.1 in omega (arith, b) in
+    let r = (s.last (get_or found place 0)).0 (place, q.1.1, q.1.2, refl) in
+    subst (λ k. Reaches ups of k other) u (q.0, below.0, (let b = below.1 in omega (arith, b)), subst (Reaches ups of n) (sym up) r) in
     let from : (other : ℕ) → Reaches ups of (n + 1) other → Contains tail other = λ other r.
-        let q : Reaches ups of (suc n) other = subst (λ k. Reaches ups of k other) (sym u) r in
-        let at = (s.last (get_or ups other 0 - 1)).1 q.3 in
-        (told other).1 (q.0, (at.0, at.1, at.2, (q.1, (let a = at.3 in let b = q.2 in omega (arith, a, b))))) in
+    let q : Reaches ups of (suc n) other = subst (λ k. Reaches ups of k other) (sym u) r in
+    let at = (s.last (get_or ups other 0 - 1)).1 q.3 in
+    (told other).1 (q.0, (at.0, at.1, at.2, (q.1, (let a = at.3 in let b = q.2 in omega (arith, a, b))))) in
     record {
       within = omega (arith, len);
       last = λ other. (
@@ -211,10 +217,10 @@ reaches-over ups of n (suc k) other r =
 pub searched-all : (ups : List ℕ) (of n levels start : ℕ) (found : List ℕ) → n ≤ levels → start ≡ length found → IsSearched ups of n found start → IsSearched ups of levels found start
 searched-all ups of n levels start found most empty s =
     let none : (m other : ℕ) → n ≤ m → Reaches ups of m other → ⊥ = λ m other le r.
-        let e : m ≡ n + (m - n) = omega arith in
-        let q = reaches-over ups of n (m - n) other (subst (λ k. Reaches ups of k other) e r) in
-        let at = (s.last q.0).1 q.1 in
-        let a = at.1 in let b = at.2 in omega (arith, a, b, empty) in
+    let e : m ≡ n + (m - n) = omega arith in
+    let q = reaches-over ups of n (m - n) other (subst (λ k. Reaches ups of k other) e r) in
+    let at = (s.last q.0).1 q.1 in
+    let a = at.1 in let b = at.2 in omega (arith, a, b, empty) in
     record {
       within = s.within;
       last = λ other. (
@@ -243,16 +249,15 @@ keys-stand names found keys start key is =
     let f : ℕ → ℕ = λ m. get_or names m 0 in
     let len : length keys ≡ length found - start = ap length is ∙ (length-map (drop start found) f ∙ length-drop start found) in
     let at : (i : ℕ) → i < length keys → get_or keys i 0 ≡ f (get_or found (start + i) 0) = λ i l.
-        ap (λ (z : List ℕ). get_or z i 0) is
-        ∙ (get_or-map f (drop start found) i 0 0 (let d = length-drop start found in omega (arith, len, d, l)) ∙ ap f (get_or-drop start found i 0)) in
-    (
+    ap (λ (z : List ℕ). get_or z i 0) is
+    ∙ (get_or-map f (drop start found) i 0 0 (let d = length-drop start found in omega (arith, len, d, l)) ∙ ap f (get_or-drop start found i 0)) in (
       λ h.
-      let a = contains-at keys key h in
-      (get_or found (start + a.0) 0, (start + a.0, omega arith, (let b = a.1 in omega (arith, b, len)), refl), sym (at a.0 a.1) ∙ a.2),
+          let a = contains-at keys key h in
+          (get_or found (start + a.0) 0, (start + a.0, omega arith, (let b = a.1 in omega (arith, b, len)), refl), sym (at a.0 a.1) ∙ a.2),
       λ (member, h, e).
-      let l : h.0 - start < length keys = let a = h.1 in let b = h.2 in omega (arith, a, b, len) in
-      let q : start + (h.0 - start) ≡ h.0 = let a = h.1 in omega (arith, a) in
-      at-contains keys (h.0 - start) key l (at (h.0 - start) l ∙ (ap (λ k. f (get_or found k 0)) q ∙ (ap f h.3 ∙ e))),
+          let l : h.0 - start < length keys = let a = h.1 in let b = h.2 in omega (arith, a, b, len) in
+          let q : start + (h.0 - start) ≡ h.0 = let a = h.1 in omega (arith, a) in
+          at-contains keys (h.0 - start) key l (at (h.0 - start) l ∙ (ap (λ k. f (get_or found k 0)) q ∙ (ap f h.3 ∙ e))),
     )
 
 -- what follows of a value, if there is one

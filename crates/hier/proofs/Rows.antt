@@ -1,6 +1,6 @@
 -- What the rows tell of a member.
 use Rattle.std.specs.Prelude.{slice_get}
-use Rattle.std.proofs.Common.{◌≡◌, ◌≢◌, ◌⊎◌, ℕ, ◌+◌, ◌<◌, ◌≤◌, List, length, get_or, set, Some, inl, inr, ap, arith, sym, ◌∙◌, subst, get_or-set_same, get_or-set_other, below_more, length-set}
+use Rattle.std.proofs.Common.{◌≡◌, ◌≢◌, ◌⊎◌, ℕ, ◌+◌, ◌<◌, ◌≤◌, List, length, get_or, set, Some, inl, inr, arith, sym, ◌∙◌, subst, get_or-set_same, get_or-set_other, below_more, length-set}
 use Rattle.std.proofs.lemmas.Bool.{cases_eq, cases_lt}
 use Rattle.std.proofs.lemmas.List.{get_or_past}
 use Rattle.hier.specs.declared.hier.Parent.{Parent}

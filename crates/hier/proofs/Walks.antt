@@ -135,10 +135,12 @@ module _ (ups rows : List ℕ) (start : ℕ) where
           (λ up row.
           let e : i + (walk.count + rest - i - 1) ≡ walk.count + rest - 1 = omega arith in
           let f : i + (walk.count + rest - i) ≡ walk.count + rest = omega arith in
-          let s = tail-stops i (walk.count + rest) l refl (subst (λ x. 0 < get_or ups (w x) 0) e up) (subst (λ x. 0 < get_or rows (w x) 0) f row) in
-          (s.0 - i, (let a = s.1 in let b = s.2 in omega (arith, a, b)),
-          (let g : i + (s.0 - i) ≡ s.0 = let a = s.1 in omega (arith, a) in
-          subst (λ x. w x ≡ w (i + (s.0 - i))) (sym f) (subst (λ x. w (walk.count + rest) ≡ w x) (sym g) s.3))))
+          let s = tail-stops i (walk.count + rest) l refl (subst (λ x. 0 < get_or ups (w x) 0) e up) (subst (λ x. 0 < get_or rows (w x) 0) f row) in (
+            s.0 - i,
+            (let a = s.1 in let b = s.2 in omega (arith, a, b)),
+            (let g : i + (s.0 - i) ≡ s.0 = let a = s.1 in omega (arith, a) in
+                subst (λ x. w x ≡ w (i + (s.0 - i))) (sym f) (subst (λ x. w (walk.count + rest) ≡ w x) (sym g) s.3)),
+          ))
 
     -- ---- the walk comes round again
     module _ (up : 0 < get_or ups (w (walk.count - 1)) 0) (lap : walk.lap < walk.count) (again : w walk.count ≡ w walk.lap) where
@@ -147,11 +149,13 @@ module _ (ups rows : List ℕ) (start : ℕ) where
       met m l = elim (cases_lt m walk.count) [
         | inl inner ↦ (m, inner, refl, inl (inner, refl))
         | inr outer ↦
-            let e : walk.count + (m - walk.count) ≡ m = omega arith in
-            (walk.lap + (m - walk.count), omega arith,
-            subst (λ x. w x ≡ w (walk.lap + (m - walk.count))) e
-            (above-add ups start walk.count (m - walk.count) ∙ (ap (λ x. above ups (m - walk.count) x) again ∙ sym (above-add ups start walk.lap (m - walk.count)))),
-            inr (outer, omega arith))
+            let e : walk.count + (m - walk.count) ≡ m = omega arith in (
+              walk.lap + (m - walk.count),
+              omega arith,
+              subst (λ x. w x ≡ w (walk.lap + (m - walk.count))) e
+                  (above-add ups start walk.count (m - walk.count) ∙ (ap (λ x. above ups (m - walk.count) x) again ∙ sym (above-add ups start walk.lap (m - walk.count)))),
+              inr (outer, omega arith),
+            )
       ]
 
       lap-linked : (m : ℕ) → m < walk.count → 0 < get_or ups (w m) 0
@@ -183,13 +187,16 @@ module _ (ups rows : List ℕ) (start : ℕ) where
           differ p.0 q.0 p.1 q.1 ne (sym p.2 ∙ (e ∙ q.2)))
           (λ u row.
           let q = met (i + (walk.count - walk.lap)) (omega arith) in
-          let z : i + 0 ≡ i = omega arith in
-          (0, omega arith, elim q.3 [
-            | inl inner ↦ absurd (let n = inner.0 in omega (arith, n))
-            | inr outer ↦
-                let e : q.0 ≡ i + 0 = let y = outer.1 in omega (arith, y) in
-                q.2 ∙ ap w e
-          ]))
+          let z : i + 0 ≡ i = omega arith in (
+            0,
+            omega arith,
+            elim q.3 [
+              | inl inner ↦ absurd (let n = inner.0 in omega (arith, n))
+              | inr outer ↦
+                  let e : q.0 ≡ i + 0 = let y = outer.1 in omega (arith, y) in
+                  q.2 ∙ ap w e
+            ],
+          ))
         where
           round : (i a b p q : ℕ) → walk.lap < i → i < walk.count → a < b → b < walk.count - walk.lap
               → (((i + a < walk.count) × (p ≡ i + a)) ⊎ ((walk.count ≤ i + a) × (p + walk.count ≡ walk.lap + (i + a))))
@@ -385,9 +392,9 @@ walk-more ups rows lengths old now start at n d linked is within len row fresh f
     let in_now : at < length now = omega arith in
     let same : get_or (set now at (n + 1)) at 0 ≡ n + 1 = get_or-set_same now at (n + 1) 0 in_now in
     let ne : (i : ℕ) → i < n → above ups i start ≢ at = λ i l e.
-        let m = d.marked i l in
-        let z = subst (λ k. get_or now k 0 ≡ 0) (sym e) free in
-        omega (arith, m, z) in
+    let m = d.marked i l in
+    let z = subst (λ k. get_or now k 0 ≡ 0) (sym e) free in
+    omega (arith, m, z) in
     record {
       len = length-set now at (n + 1) ∙ d.len;
       linked = λ i l. linked i (omega arith);

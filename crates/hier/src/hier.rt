@@ -152,7 +152,12 @@ impl Hier {
 
     /// Finds the members below one at so many levels, and answers the place from which on those of the last
     /// level stand.
-    fn find_levels(&self, found: &mut ListOf<u32>, of: usize, levels: u32) -> Result<usize, NoMemory>
+    fn find_levels(
+        &self,
+        found: &mut ListOf<u32>,
+        of: usize,
+        levels: u32,
+    ) -> Result<usize, NoMemory>
         requires of { of < length self.now.members.items }
         requires none { found.old ≡ [] }
         requires some { 0 < levels }

@@ -117,7 +117,13 @@ pub(crate) fn lengths_of(alloc: Global, ups: &[u32], rows: &[u32]) -> Result<Vec
         return Err(NoMemory);
     };
     for member in 0..ups.len() {
-        count_chain(ups, rows, lengths.as_mut_slice(), places.as_mut_slice(), member);
+        count_chain(
+            ups,
+            rows,
+            lengths.as_mut_slice(),
+            places.as_mut_slice(),
+            member,
+        );
     }
     Ok(lengths)
 }

@@ -36,7 +36,12 @@ fn up_of(members: &[u64], parent: Parent) -> u32
 }
 
 /// The links of the members of a list of keys and their parents.
-pub(crate) fn links_of(alloc: Global, keys: &[u64], parents: &[Parent], members: &[u64]) -> Result<Links, NoMemory>
+pub(crate) fn links_of(
+    alloc: Global,
+    keys: &[u64],
+    parents: &[Parent],
+    members: &[u64],
+) -> Result<Links, NoMemory>
     requires rows { length keys.now ≤ MOST_ROWS }
     requires same { length parents.now ≡ length keys.now }
     requires small { length members.now < 2 ^ 24 }
@@ -49,7 +54,7 @@ pub(crate) fn links_of(alloc: Global, keys: &[u64], parents: &[Parent], members:
     ensures within { IfOk result (λ links. (member : ℕ) → slice_index links.ups.items member ≤ length members.now) }
     ensures told { IfOk result (λ links. (member : ℕ) → member < length members.now
         → TellsRow keys.now parents.now members.now (length keys.now) (slice_index members.now member)
-            (slice_index links.rows.items member) (slice_index links.ups.items member)) }
+        (slice_index links.rows.items member) (slice_index links.ups.items member)) }
 {
     let Ok(mut rows) = Vec::from_elem(alloc, 0u32, members.len()) else {
         return Err(NoMemory);

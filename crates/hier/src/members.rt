@@ -41,7 +41,11 @@ fn all_of(alloc: Global, keys: &[u64], parents: &[Parent]) -> Result<Vec<u64>, A
 }
 
 /// The members of a list of keys and their parents.
-pub(crate) fn members_of(alloc: Global, keys: &[u64], parents: &[Parent]) -> Result<Vec<u64>, NoMemory>
+pub(crate) fn members_of(
+    alloc: Global,
+    keys: &[u64],
+    parents: &[Parent],
+) -> Result<Vec<u64>, NoMemory>
     requires rows { length keys.now ≤ MOST_ROWS }
     requires same { length parents.now ≡ length keys.now }
     ensures rises { IfOk result (λ members. IsStrictlyIncreasing members.items) }

@@ -1,5 +1,5 @@
 -- What the first rows tell of a member.
-use Rattle.std.specs.Prelude.{◌≡◌, ◌≢◌, ◌+◌, ◌<◌, ◌⊎◌, ℕ, List, Option, Some, None, length, slice_get, slice_index}
+use Rattle.std.specs.Prelude.{◌≡◌, ◌≢◌, ◌+◌, ◌<◌, ◌⊎◌, ℕ, List, Some, length, slice_get, slice_index}
 use Rattle.hier.specs.declared.hier.Parent.{Parent}
 use Rattle.hier.specs.declared.hier.Parent.TheVariants.{Of, Top}
 

@@ -2,7 +2,7 @@
 use Rattle.std.proofs.Common.{◌≡◌, ◌<◌, ◌+◌, ◌-◌, ◌∙◌, length, get_or, arith, length-set, subst, sym}
 use Rattle.hier.specs.Members.{TellsNext}
 use Rattle.hier.proofs.Lists.{number-read}
-use Rattle.hier.proofs.Nexts.{firsts-put, firsts-skip, nexts-put}
+use Rattle.hier.proofs.Nexts.{firsts-put, nexts-put}
 use Rattle.hier.proofs.below.below_of.Goals as goal
 
 pub loop-left-preserved-then-ups-left-ne0 : goal.loop-left-preserved-then-ups-left-ne0

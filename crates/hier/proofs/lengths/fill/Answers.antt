@@ -1,5 +1,5 @@
 -- A member more is counted.
-use Rattle.std.proofs.Common.{◌≡◌, ◌<◌, ◌+◌, ◌-◌, ◌∙◌, length, get_or, set, ap, arith, subst, sym}
+use Rattle.std.proofs.Common.{◌≡◌, ◌<◌, ◌+◌, ◌-◌, ◌∙◌, get_or, set, ap, arith, subst, sym}
 use Rattle.hier.specs.Members.{above}
 use Rattle.hier.specs.steps.Counting.{IsFilled}
 use Rattle.hier.proofs.Above.{above-more, above-none}

@@ -1,8 +1,5 @@
 -- The walk goes on, or ends.
-use Rattle.std.proofs.Common.{◌≡◌, ◌≢◌, ◌<◌, ◌≤◌, ◌+◌, ◌-◌, ◌∙◌, ℕ, length, get_or, set, inl, inr, refl, ap, arith, subst, sym, below_more}
-use Rattle.std.proofs.lemmas.Bool.{cases_eq}
-use Rattle.hier.specs.Members.{above}
-use Rattle.hier.specs.steps.Counting.{EndsAs, IsWalked}
+use Rattle.std.proofs.Common.{◌<◌, ◌+◌, ◌-◌, ◌∙◌, get_or, inl, inr, ap, arith, subst, sym, below_more}
 use Rattle.hier.proofs.Above.{above-more, above-none}
 use Rattle.hier.proofs.Walks.{unmarked-start, walk-known, walk-met, walk-more, walk-none, walk-round, zeros-set}
 use Rattle.hier.proofs.lengths.walked.Goals as goal

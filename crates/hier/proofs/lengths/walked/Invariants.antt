@@ -1,5 +1,5 @@
 -- The members so far are walked, and the next one is fresh.
-use Rattle.std.proofs.Common.{◌≡◌, ◌<◌, ◌≤◌, ℕ, length, get_or}
+use Rattle.std.proofs.Common.{◌≡◌, ◌<◌, ℕ, length, get_or}
 use Rattle.hier.specs.Members.{above}
 use Rattle.hier.specs.steps.Counting.{IsWalked, zeros}
 use Rattle.hier.proofs.lengths.walked.Given as goal

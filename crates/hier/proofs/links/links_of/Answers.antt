@@ -1,7 +1,5 @@
 -- A row more.
-use Rattle.std.specs.Prelude.{slice_get}
-use Rattle.std.proofs.Common.{◌≡◌, ◌≢◌, ◌<◌, ◌≤◌, ◌+◌, ◌∙◌, ℕ, List, length, get_or, set, inl, inr, arith, length-set, subst, sym, ap, Vec, Global, get_or-set_same, get_or-set_other}
-use Rattle.std.proofs.lemmas.Bool.{cases_eq}
+use Rattle.std.proofs.Common.{◌≡◌, ◌<◌, ◌≤◌, ◌+◌, ◌∙◌, ℕ, List, length, get_or, set, arith, length-set, subst, sym, ap, Vec, Global}
 use Rattle.std.proofs.lemmas.Option.{slice_get-get_or}
 use Rattle.hier.specs.steps.Linking.{TellsRow}
 use Rattle.hier.proofs.Lists.{number-read, rises-one}

@@ -2,7 +2,7 @@
 use Rattle.std.specs.Prelude.{Contains}
 use Rattle.std.specs.List.{slice_get}
 use Rattle.std.specs.List.Sorted.{IsStrictlyIncreasing}
-use Rattle.std.proofs.Common.{◌≡◌, ◌<◌, ◌∙◌, ℕ, List, Some, length, get_or, ap, subst, sym}
+use Rattle.std.proofs.Common.{◌≡◌, ◌<◌, ℕ, List, Some, length, get_or, subst, sym}
 use Rattle.dict_value.specs.FindByKey.{HasKeyAt}
 use Rattle.hier.specs.Members.{IsCounted}
 use Rattle.hier.specs.declared.hier.Parent.TheVariants.{Of}

@@ -1,9 +1,8 @@
 -- The members of a chain.
 use Rattle.std.specs.Prelude.{Contains}
 use Rattle.std.specs.List.Sorted.{IsStrictlyIncreasing}
-use Rattle.std.proofs.Common.{◌≡◌, ◌<◌, ◌≤◌, ◌+◌, ◌-◌, ◌∷◌, [], ◌++◌, ◌∙◌, ℕ, List, length, get_or, refl, ap, arith, subst, sym}
+use Rattle.std.proofs.Common.{◌≡◌, ◌<◌, ◌∷◌, [], ◌++◌, ◌∙◌, ℕ, List, length, get_or, ap, arith, subst, sym}
 use Rattle.hier.specs.Hierarchy.{IsChain}
-use Rattle.hier.specs.Members.{above}
 use Rattle.hier.proofs.Above.{above-none, walk-next, walk-within}
 use Rattle.hier.proofs.ChainMembers.{chain-is, no-chain, walk_keys, walk_keys-more}
 use Rattle.hier.proofs.Lists.{number-read}

@@ -1,7 +1,7 @@
 -- The keys of the members that were found.
-use Rattle.std.specs.Prelude.{Contains, ◌↔◌}
+use Rattle.std.specs.Prelude.{Contains}
 use Rattle.std.specs.List.Sorted.{IsStrictlyIncreasing}
-use Rattle.std.proofs.Common.{◌≡◌, ◌<◌, ◌∙◌, ℕ, List, drop, length, map, get_or, refl, ap, arith, subst, sym}
+use Rattle.std.proofs.Common.{◌≡◌, ◌<◌, ◌∙◌, ℕ, List, drop, length, map, get_or, ap, subst, sym}
 use Rattle.hier.specs.Hierarchy.{IsDescendant, IsRisingListOf}
 use Rattle.hier.proofs.Descendants.{descendants-all, no-descendants}
 use Rattle.hier.proofs.Finds.{found-drop, range-drop}

@@ -1,5 +1,5 @@
 -- A level more, or no member at the last.
-use Rattle.std.proofs.Common.{◌≡◌, ◌≤◌, ◌<◌, ◌+◌, ℕ, List, length, get_or, refl, arith, subst, sym, ◌∙◌}
+use Rattle.std.proofs.Common.{◌≡◌, ◌+◌, get_or, refl, arith, subst, sym, ◌∙◌}
 use Rattle.hier.specs.steps.Finding.{IsSearched}
 use Rattle.hier.proofs.Finds.{reaches-within, searched-all, searched-more, searched-one}
 use Rattle.hier.proofs.hier.Hier.find_levels.Goals as goal

@@ -1,9 +1,8 @@
 -- The members of a chain, one by one.
 use Rattle.std.specs.Prelude.{Contains}
 use Rattle.std.specs.List.Sorted.{IsStrictlyIncreasing}
-use Rattle.std.proofs.Common.{◌≡◌, ◌≢◌, ◌<◌, ◌≤◌, ◌+◌, ◌-◌, ◌∙◌, ℕ, List, length, get_or, refl, ap, arith, subst, sym, below_more, rules}
+use Rattle.std.proofs.Common.{◌≡◌, ◌<◌, ◌∙◌, ℕ, List, length, get_or, ap, arith, subst, sym, below_more, rules}
 use Rattle.hier.specs.Hierarchy.{IsIn}
-use Rattle.hier.specs.Members.{above}
 use Rattle.hier.proofs.Above.{above-none, walk-next, walk-within}
 use Rattle.hier.proofs.ChainMembers.{in-from, in-none, in-to}
 use Rattle.hier.proofs.Lists.{number-read}
@@ -39,7 +38,7 @@ returns-then-index-ancestor c = λ keys parents h.
     let len = number-read it.lengths.items c.in-Some.start c.index-length.result.now (let l = it.sound.lengths_len in let i = found.0 in omega (arith, l, i)) c.index-length.ensures in
     let read = number-read members c.loop-place.at c.index.result.now within c.index.ensures in
     let has = in-from keys parents it h c.in-Some.start found.0 c.args.ancestor c.loop-place.place (let t = c.loop-place-test.true in omega (arith, len, t))
-        (ap (λ m. get_or members m 0) (sym at) ∙ (read ∙ c.if-index-ancestor.true)) in
+    (ap (λ m. get_or members m 0) (sym at) ∙ (read ∙ c.if-index-ancestor.true)) in
     (λ t. subst (λ k. IsIn keys parents k c.args.ancestor) found.1 has, λ t. search rules)
 
 pub loop-place-preserved : goal.loop-place-preserved
@@ -64,7 +63,9 @@ returns c = λ keys parents h.
     let members = it.members.items in
     let found : (c.in-Some.start < length members) × (get_or members c.in-Some.start 0 ≡ c.args.key) =
     subst (λ (z : List ℕ). (c.in-Some.start < length z) × (get_or z c.in-Some.start 0 ≡ c.args.key)) c.as_slice.ensures.value c.in-Some.ensures.found in
-    let len = number-read it.lengths.items c.in-Some.start c.index-length.result.now (let l = it.sound.lengths_len in let i = found.0 in omega (arith, l, i)) c.index-length.ensures in
-    (λ t. absurd (search rules), λ has.
-    let place = in-to keys parents it h c.in-Some.start found.0 c.args.ancestor (subst (λ k. IsIn keys parents k c.args.ancestor) (sym found.1) has) in
-    absurd (c.loop-place.invariant.others place.0 (let q = place.1 in let t = c.loop-place-test.false in omega (arith, q, len, t)) place.2))
+    let len = number-read it.lengths.items c.in-Some.start c.index-length.result.now (let l = it.sound.lengths_len in let i = found.0 in omega (arith, l, i)) c.index-length.ensures in (
+      λ t. absurd (search rules),
+      λ has.
+          let place = in-to keys parents it h c.in-Some.start found.0 c.args.ancestor (subst (λ k. IsIn keys parents k c.args.ancestor) (sym found.1) has) in
+          absurd (c.loop-place.invariant.others place.0 (let q = place.1 in let t = c.loop-place-test.false in omega (arith, q, len, t)) place.2),
+    )

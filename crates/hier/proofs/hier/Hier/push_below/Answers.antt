@@ -1,8 +1,7 @@
 -- The members below one, from the least on.
-use Rattle.std.proofs.Common.{◌≡◌, ◌≢◌, ◌<◌, ◌+◌, ◌-◌, ℕ, List, length, get_or, inl, inr, arith, ap, subst, sym}
+use Rattle.std.proofs.Common.{◌≡◌, ◌<◌, ◌+◌, ◌-◌, ℕ, List, length, get_or, inl, inr, arith, subst, sym}
 use Rattle.std.proofs.lemmas.Bool.{cases_eq}
 use Rattle.hier.specs.Members.{TellsNext}
-use Rattle.hier.specs.steps.Finding.{AddsBelow}
 use Rattle.hier.proofs.Finds.{IsSoFar, so-far-all, so-far-more, so-far-none, so-far-skip}
 use Rattle.hier.proofs.Lists.{number-read}
 use Rattle.hier.proofs.hier.Hier.push_below.Goals as goal
@@ -24,8 +23,8 @@ loop-cell-preserved c =
     let member : cell - 1 < length it.members.items = let w = within.1 in let n = it.sound.ups_len in omega (arith, w, n, some) in
     let read = number-read it.nexts.items (cell - 1) c.index-cell-in-loop-cell.result.now (let n = it.sound.nexts_len in omega (arith, n, member)) c.index-cell-in-loop-cell.ensures in
     let told : get_or ups (cell - 1) 0 ≡ c.args.of + 1 → TellsNext ups (cell - 1 + 1) (c.args.of + 1) c.index-cell-in-loop-cell.result.now = λ e.
-        subst (λ k. TellsNext ups (cell - 1 + 1) k c.index-cell-in-loop-cell.result.now) e
-        (subst (TellsNext ups (cell - 1 + 1) (get_or ups (cell - 1) 0)) read (it.sound.next (cell - 1) member (omega (arith, e)))) in
+    subst (λ k. TellsNext ups (cell - 1 + 1) k c.index-cell-in-loop-cell.result.now) e
+    (subst (TellsNext ups (cell - 1 + 1) (get_or ups (cell - 1) 0)) read (it.sound.next (cell - 1) member (omega (arith, e)))) in
     elim (cases_eq (cell - 1) c.args.but) [
       | inl same ↦
           subst (λ b. IsSoFar ups c.args.of b c.args.found.now c.push_other.new.found c.index-cell-in-loop-cell.result.now) same

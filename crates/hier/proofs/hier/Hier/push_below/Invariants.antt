@@ -1,6 +1,5 @@
 -- The members below the one, up to a member, are appended.
-use Rattle.std.specs.Prelude.{Contains}
-use Rattle.std.proofs.Common.{◌≡◌, ◌≢◌, ◌++◌, ◌+◌, ◌-◌, ◌<◌, ◌≤◌, ℕ, List, cond, eqb, length}
+use Rattle.std.proofs.Common.{◌+◌, ◌-◌, cond, eqb, length}
 use Rattle.hier.proofs.Finds.{IsSoFar}
 use Rattle.hier.proofs.hier.Hier.push_below.Given as goal
 

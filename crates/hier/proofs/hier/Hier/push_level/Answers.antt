@@ -1,5 +1,5 @@
 -- The members below one more are appended.
-use Rattle.std.proofs.Common.{◌≡◌, ◌<◌, ℕ, List, length, get_or, arith, subst, sym, ap, ◌∙◌}
+use Rattle.std.proofs.Common.{◌≡◌, ◌<◌, ℕ, List, length, get_or, arith, subst, ap, ◌∙◌}
 use Rattle.hier.specs.steps.Finding.{AddsBelow, AddsLevel}
 use Rattle.hier.proofs.Finds.{level-more, stood}
 use Rattle.hier.proofs.hier.Hier.push_level.Goals as goal
