@@ -14,19 +14,18 @@ use Rattle.ddl_tokens.specs.Tokens.{Token}
 use Rattle.ddl_tokens.specs.Reading.{◌>>=◌, is_keyword, is_name, is_the_sign}
 use Rattle.ddl_tokens.specs.Laws.{first, passes_first, place_of, Anyhow, IsOne, IsKeyword, IsSign, Lawful, Made, Optional, OptionalStops, Then}
 use Rattle.ddl_tokens.specs.Lists.{AddsOnce, BeginsNone, Kind, LastStops, Many, none, more, repeat}
-use Rattle.ddl_tokens.specs.Judged.{Judged, stands, refused, LawfulJudged, JudgedStops, Standing}
-use Rattle.ddl_tokens.proofs.Laws.{bytes, headed, judged_ok, keyword, keywords_apart, made, optional, sign, sign_no_keyword, signs_apart, then, then_after, test_cases}
-use Rattle.ddl_tokens.proofs.Lists.{all_stop}
+use Rattle.ddl_tokens.specs.Verdicts.{Verdict, stands, falls, LawfulVerdict, VerdictStops, Standing}
+use Rattle.ddl_tokens.proofs.Laws.{bytes, headed, judged_ok, keyword, keywords_apart, made, optional, sign, sign_no_keyword, signs_apart, then, then_after}
 use Rattle.ddl_tokens.proofs.Once.{in_any_order}
-use Rattle.ddl_tokens.proofs.Judged.{judged_then_after, read_as, separated_judged, standing, then_judged}
+use Rattle.ddl_tokens.proofs.Verdicts.{judged_then_after, read_as, separated_judged, standing, then_judged}
 use Rattle.ddl_columns.specs.declared.marks.Mark.{Mark}
 use Rattle.ddl_columns.specs.declared.marks.Mark.TheVariants as mark
 use Rattle.ddl_columns.specs.Defaults.{literal}
 use Rattle.ddl_columns.specs.Marks.{mark_number, mark_of, word_of}
-use Rattle.ddl_columns.specs.Grammar.{IsDefault, IsMark, AreMarks, IsColumn, ColumnStops, AreColumns, IsType, TypeStops, column}
-use Rattle.ddl_columns.specs.Reading.{column_at, columns_at, default_at, mark_at, next_mark}
+use Rattle.ddl_columns.specs.Grammar.{IsDefault, IsColumnMark, AreMarks, IsColumn, ColumnStops, AreColumns, column}
+use Rattle.ddl_columns.specs.Reading.{column_at, column_list_at, default_at, mark_at, next_mark}
 use Rattle.ddl_columns.proofs.OneToken.{literal_law}
-use Rattle.ddl_columns.proofs.TypeLaws.{optional_stops, sign_first, type_law}
+use Rattle.ddl_columns.proofs.TypeLaws.{list_closes, optional_stops, type_law}
 
 -- ---- what the token of a mark says
 
@@ -90,7 +89,7 @@ mark_no_default mark.Injective t h = keywords_apart (codes "INJECTIVE") (codes "
 
 -- ---- marks
 
-mark_law : (k : Mark) → Lawful (λ _. Unit {0}) (mark_at k) (IsMark k) Anyhow
+mark_law : (k : Mark) → Lawful (λ _. Unit {0}) (mark_at k) (IsColumnMark k) Anyhow
 unfolding mark_at
 mark_law k = made (λ _. k) Anyhow (λ a o s. tt) (λ a o s. tt) (keyword (word_of k))
 
@@ -109,7 +108,7 @@ marked mark.Injective t h =
     ∙ cond-false (is_keyword (codes "IS_OBJECT_ID") t) _ _ (keywords_apart (codes "INJECTIVE") (codes "IS_OBJECT_ID") t refl h)
     ∙ cond-true (is_keyword (codes "INJECTIVE") t) _ _ h
 
-mark_headed : (k a : Mark) (own : List Token) → IsMark k a own → (t : Token) × (rest : List Token) × (own ≡ t ∷ rest) × (mark_of t ≡ Ok (Some k))
+mark_headed : (k a : Mark) (own : List Token) → IsColumnMark k a own → (t : Token) × (rest : List Token) × (own ≡ t ∷ rest) × (mark_of t ≡ Ok (Some k))
 mark_headed k a own h = let w = the_word (word_of k) h.from own h.fits in (w.0, [], w.1, marked k w.0 w.2)
 
 marks_law : {Before : Option Token → Type 0} → Lawful Before (repeat next_mark []) AreMarks (BeginsNone mark_of)
@@ -124,7 +123,7 @@ marks_begin test word behind marks ts rest h s = at [] marks ts h.0 where
   behind_first None e = refl
   behind_first (Some t) e = behind t e
 
-  at : (a b : List Mark) (us : List Token) → Many (AddsOnce mark_number mark_number IsMark) a b us → passes_first test (first (us ++ rest)) ≡ false
+  at : (a b : List Mark) (us : List Token) → Many (AddsOnce mark_number mark_number IsColumnMark) a b us → passes_first test (first (us ++ rest)) ≡ false
   at a b us (none e k) = subst (λ (vs : List Token). passes_first test (first (vs ++ rest)) ≡ false) (sym k) (behind_first (first rest) s)
   at a b us (more {own = own} {rest = others} e x m) =
       let w = the_word (word_of x.kind) x.fits.from own x.fits.fits in
@@ -152,8 +151,8 @@ behind_law name ty =
     then_after default_law (λ d. made (column name ty d) ColumnStops (λ a o s. s) (λ a o s. s) marks_law)
     (λ d c ts rest h s. default_follows name ty d c ts rest h s)
 
-type_follows : (name : List ℕ) (ty : AttrType) (v : Judged Column) (ts rest : List Token) → Standing (Behind name ty) v ts → JudgedStops ColumnStops v (first rest) → passes_first (is_the_sign 40) (first (ts ++ rest)) ≡ false
-type_follows name ty (refused e) ts rest h s = absurd h
+type_follows : (name : List ℕ) (ty : AttrType) (v : Verdict Column) (ts rest : List Token) → Standing (Behind name ty) v ts → VerdictStops ColumnStops v (first rest) → passes_first (is_the_sign 40) (first (ts ++ rest)) ≡ false
+type_follows name ty (falls e) ts rest h s = absurd h
 type_follows name ty (stands c) ts rest h s = ap (λ (us : List Token). passes_first (is_the_sign 40) (first (us ++ rest))) h.parts ∙ at h.value h.before where
   no_bracket : (k : Mark) (t : Token) → is_keyword (word_of k) t ≡ true → is_the_sign 40 t ≡ false
   no_bracket k t e = keyword_no_sign (word_of k) 40 t e
@@ -166,7 +165,7 @@ type_follows name ty (stands c) ts rest h s = ap (λ (us : List Token). passes_f
       let p = headed is_default (λ _. tt {0}) (λ _. IsOne literal) x h.front e in
       ap (λ (us : List Token). passes_first (is_the_sign 40) (first ((us ++ h.back) ++ rest))) p.2 ∙ keyword_no_sign (codes "DEFAULT") 40 p.0 p.3
 
-column_law : {Before : Option Token → Type 0} → LawfulJudged Before column_at IsColumn ColumnStops
+column_law : {Before : Option Token → Type 0} → LawfulVerdict Before column_at IsColumn ColumnStops
 unfolding column_at
 column_law =
     then_judged (bytes is_name Word refl) (λ name.
@@ -182,17 +181,13 @@ column_at_end : (c : Column) (t : Token) → is_the_sign 41 t ≡ true → Colum
 unfolding same_letters
 column_at_end c t e = sign_marks_none 41 t refl e
 
-columns_follow : (columns : List Column) (v : Judged (List Column)) (ts rest : List Token) → Standing (Made (λ _. columns) (IsSign 41)) v ts
+columns_follow : (columns : List Column) (v : Verdict (List Column)) (ts rest : List Token) → Standing (Made (λ _. columns) (IsSign 41)) v ts
     → LastStops ColumnStops columns (first (ts ++ rest)) × (passes_first (is_the_sign 44) (first (ts ++ rest)) ≡ false)
-unfolding same_letters
-columns_follow columns (refused e) ts rest h = absurd h
-columns_follow columns (stands c) ts rest h =
-    let p = sign_first 41 h.from ts rest h.fits in
-    subst (λ (o : Option Token). LastStops ColumnStops columns o × (passes_first (is_the_sign 44) o ≡ false)) (sym p.1)
-    (all_stop ColumnStops (Some p.0) columns (λ c. column_at_end c p.0 p.2), signs_apart 41 44 p.0 refl p.2)
+columns_follow columns (falls e) ts rest h = absurd h
+columns_follow columns (stands c) ts rest h = list_closes ColumnStops column_at_end columns h.from ts rest h.fits
 
-pub columns_law : {Before : Option Token → Type 0} → LawfulJudged Before columns_at AreColumns Anyhow
-unfolding columns_at
+pub columns_law : {Before : Option Token → Type 0} → LawfulVerdict Before column_list_at AreColumns Anyhow
+unfolding column_list_at
 columns_law =
     then_judged (sign 40) (λ _.
     judged_then_after (separated_judged 44 column_law column_at_comma) (λ columns. standing (made (λ _. columns) Anyhow (λ a o s. tt) (λ a o s. tt) (sign 41)))

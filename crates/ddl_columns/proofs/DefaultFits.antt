@@ -1,5 +1,5 @@
 -- A default that a DEFAULT gives fits its column where the literal has a reading.
-use Rattle.std.proofs.Common.{◌≡◌, Bool, true, false, cond, Some, Result, Ok, Err, refl, subst, sym}
+use Rattle.std.proofs.Common.{◌≡◌, Bool, true, false, cond, Some, Result, Ok, Err, refl, subst}
 use Rattle.std.specs.Prelude.{◌↔◌, IsOk}
 use Rattle.dict_value.specs.declared.value.AttrType.{AttrType}
 use Rattle.dict_value.specs.declared.value.BadValue.{BadValue}

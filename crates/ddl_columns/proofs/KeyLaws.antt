@@ -1,7 +1,6 @@
 -- Keys are read by their grammar.
-use Rattle.std.proofs.Common.{◌≡◌, ℕ, Bool, true, false, List, [], ◌∷◌, ◌++◌, Option, Some, Result, Ok, Err, refl, sym, ap, subst, ◌∙◌, inl, inr}
+use Rattle.std.proofs.Common.{◌≡◌, ℕ, true, false, List, [], ◌∷◌, ◌++◌, Option, Result, Ok, Err, refl, sym, ap, ◌∙◌, inl, inr}
 use Rattle.std.specs.Prelude.{codes, IfOk}
-use Rattle.std.proofs.lemmas.Bool.{cases_Bool}
 use Rattle.ddl_tokens.specs.declared.token.TokenKind.{TokenKind}
 use Rattle.ddl_tokens.specs.declared.token.TokenKind.TheVariants.{Word, QuotedWord, Number, String, Sign, Broken, End}
 use Rattle.ddl_tokens.specs.declared.letters.LetterCase.TheVariants.{AsWritten}
@@ -12,12 +11,12 @@ use Rattle.ddl_tokens.specs.declared.fault.SyntaxFault.TheVariants.{Unexpected}
 use Rattle.ddl_tokens.specs.Reading.{Gives, is_name, is_signed, is_the_sign}
 use Rattle.ddl_tokens.specs.Laws.{first, passes_first, Anyhow, Begins, Either, IsSign, Lawful, Made, Then}
 use Rattle.ddl_tokens.specs.Lists.{LastStops}
-use Rattle.ddl_tokens.proofs.Laws.{Fails, Passes, by_token, bytes, headed, judged_ok, keyword, sign, signs_apart, test_cases, then, then_after}
+use Rattle.ddl_tokens.proofs.Laws.{Fails, Passes, by_token, bytes, headed, judged_ok, keyword, sign, test_cases, then, then_after}
 use Rattle.ddl_tokens.proofs.Lists.{all_stop, separated}
-use Rattle.ddl_tokens.proofs.Judged.{made_before}
+use Rattle.ddl_tokens.proofs.Verdicts.{made_before}
 use Rattle.ddl_columns.specs.Grammar.{AreNames, InBrackets, IsKey, KeyStops}
 use Rattle.ddl_columns.specs.Reading.{in_brackets_at, key_at, key_names_at, last_at, names_at}
-use Rattle.ddl_columns.proofs.TypeLaws.{sign_first}
+use Rattle.ddl_columns.proofs.TypeLaws.{list_closes}
 
 -- a name is no sign
 pub name_no_sign : (s : ℕ) (t : Token) → is_name t.kind ≡ true → is_the_sign s t ≡ false
@@ -41,11 +40,7 @@ names_law = separated 44 (bytes is_name Word refl) (λ a t e. tt)
 
 names_follow : (names all : List (List ℕ)) (ts rest : List Token) → Made (λ _. names) (IsSign 41) all ts
     → LastStops Anyhow names (first (ts ++ rest)) × (passes_first (is_the_sign 44) (first (ts ++ rest)) ≡ false)
-unfolding same_letters
-names_follow names all ts rest h =
-    let p = sign_first 41 h.from ts rest h.fits in
-    subst (λ (o : Option Token). LastStops Anyhow names o × (passes_first (is_the_sign 44) o ≡ false)) (sym p.1)
-    (all_stop Anyhow (Some p.0) names (λ a. tt), signs_apart 41 44 p.0 refl p.2)
+names_follow names all ts rest h = list_closes Anyhow (λ a t e. tt) names h.from ts rest h.fits
 
 in_brackets_law : {Before : Option Token → Type 0} → Lawful Before in_brackets_at InBrackets KeyStops
 unfolding in_brackets_at last_at

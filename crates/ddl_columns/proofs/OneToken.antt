@@ -1,5 +1,5 @@
 -- Readings of one token are those of its judge.
-use Rattle.std.proofs.Common.{◌≡◌, ℕ, Bool, true, false, cond, List, [], ◌∷◌, Option, Some, None, Result, Ok, Err, refl, sym, ap, ◌∙◌, inl, inr}
+use Rattle.std.proofs.Common.{◌≡◌, ℕ, Bool, true, false, cond, List, [], ◌∷◌, Option, Some, None, Result, Ok, Err, refl, ap, ◌∙◌, inl, inr}
 use Rattle.std.specs.Prelude.{codes}
 use Rattle.dict_value.specs.declared.value.BadValue.{BadValue}
 use Rattle.dict_value.specs.declared.value.ColType.TheVariants as type
@@ -13,13 +13,12 @@ use Rattle.ddl_tokens.specs.Letters.{same_letters}
 use Rattle.ddl_tokens.specs.Tokens.{Token}
 use Rattle.ddl_tokens.specs.Reading.{◌>>=◌, Read, bytes_ahead, bytes_at, is_keyword, is_name, is_number, is_string, keyword_at, passes}
 use Rattle.ddl_tokens.specs.Laws.{Anyhow, IsOne, Lawful, place_of}
-use Rattle.ddl_tokens.proofs.Judged.{read_as}
-use Rattle.ddl_tokens.proofs.Laws.{bind_err, one_token, test_cases}
-use Rattle.ddl_columns.specs.declared.types.BaseName.{BaseName}
+use Rattle.ddl_tokens.proofs.Verdicts.{read_as}
+use Rattle.ddl_tokens.proofs.Laws.{bind_err, one_token}
 use Rattle.ddl_columns.specs.declared.types.BaseName.TheVariants as base
 use Rattle.ddl_columns.specs.declared.types.TypeName.{TypeName}
 use Rattle.ddl_columns.specs.declared.types.TypeName.TheVariants as name
-use Rattle.ddl_columns.specs.Types.{base_name, listed, not_nullable, number_named, reads, type_name, type_named, text_named, whole, whole_of, zone}
+use Rattle.ddl_columns.specs.Types.{base_name, listed, not_nullable, number_named, reads, type_name, type_named, whole_number, whole_of, zone}
 use Rattle.ddl_columns.specs.Defaults.{literal}
 use Rattle.ddl_columns.specs.Reading.{base_named_at, literal_at, named_at, whole_at, zone_at}
 
@@ -36,9 +35,9 @@ whole_placed true (Ok n) place e h = absurd cc
 whole_placed true (Err f) place e h = let k : Unexpected place ≡ e = cc in ap place_of k
 whole_placed false r place e h = let k : Unexpected place ≡ e = cc in ap place_of k
 
-pub whole_law : {Before : Option Token → Type 0} → Lawful Before whole_at (IsOne whole) Anyhow
+pub whole_law : {Before : Option Token → Type 0} → Lawful Before whole_at (IsOne whole_number) Anyhow
 unfolding whole_at bytes_at passes bytes_ahead
-whole_law = one_token whole_at whole refl
+whole_law = one_token whole_at whole_number refl
     (λ t ts. whole_more (is_number t.kind) t.bytes t.place ts)
     (λ t e h. whole_placed (is_number t.kind) (unsigned_of 64 t.bytes) t.place e h)
     (0, record { place = 0; kind = Number; bytes = 48 ∷ [] }, refl)

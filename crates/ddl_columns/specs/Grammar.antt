@@ -1,27 +1,26 @@
 -- The grammar of types, columns, keys and arguments, in the words of the laws. The signs are ( ) , by their codes 40,
 -- 41 and 44.
-use Rattle.std.specs.Prelude.{◌≡◌, ℕ, Bool, false, List, [], codes, Option, Some, None}
+use Rattle.std.specs.Prelude.{ℕ, List, [], codes, Option}
 use Rattle.dict_value.specs.declared.value.AttrType.{AttrType}
 use Rattle.dict_value.specs.declared.value.ColType.{ColType}
 use Rattle.dict_value.specs.declared.value.ColType.TheVariants as type
 use Rattle.dict_value.specs.declared.value.Field.{Field}
 use Rattle.dict_schema.specs.declared.definition.Arg.{Arg}
 use Rattle.dict_schema.specs.declared.definition.Column.{Column}
-use Rattle.ddl_tokens.specs.Tokens.{Token}
-use Rattle.ddl_tokens.specs.Reading.{is_keyword, is_name, is_the_sign}
-use Rattle.ddl_tokens.specs.Laws.{Anyhow, Either, Grammar, IsBytes, IsKeyword, IsNothing, IsOne, IsSign, Made, Optional}
+use Rattle.ddl_tokens.specs.Reading.{is_name, is_the_sign}
+use Rattle.ddl_tokens.specs.Laws.{Either, Grammar, IsBytes, IsKeyword, IsNothing, IsOne, IsSign, Made, Optional}
 use Rattle.ddl_tokens.specs.Laws.{NotBefore, Stopping, Then}
 use Rattle.ddl_tokens.specs.Lists.{BeginsNone, InAnyOrder, Separated, has_number}
-use Rattle.ddl_tokens.specs.Judged.{Judged, MadeJudged, SeparatedJudged, Standing, ThenJudged}
+use Rattle.ddl_tokens.specs.Verdicts.{Verdict, MadeVerdict, SeparatedVerdict, Standing, ThenVerdict}
 use Rattle.ddl_columns.specs.declared.marks.Mark.{Mark}
 use Rattle.ddl_columns.specs.declared.marks.Mark.TheVariants as mark
 use Rattle.ddl_columns.specs.declared.types.BaseName.{BaseName}
 use Rattle.ddl_columns.specs.declared.types.BaseName.TheVariants as base
 use Rattle.ddl_columns.specs.declared.types.TypeName.{TypeName}
 use Rattle.ddl_columns.specs.declared.types.TypeName.TheVariants as name
-use Rattle.ddl_columns.specs.Types.{base_name, decimal, not_null, nullable, or_none, type_name, whole, zone}
+use Rattle.ddl_columns.specs.Types.{base_name, decimal, not_null, nullable, or_none, type_name, whole_number, zone}
 use Rattle.ddl_columns.specs.Defaults.{default_given, literal}
-use Rattle.ddl_columns.specs.Marks.{mark_number, mark_of, wanted, word_of}
+use Rattle.ddl_columns.specs.Marks.{mark_number, mark_of, wanted_marks, word_of}
 
 -- ---- types
 
@@ -31,43 +30,43 @@ IsZone = Then (IsSign 40) (λ _. Then (IsOne zone) (λ _. IsSign 41))
 
 -- , whole number
 abbrev pub IsScale : Grammar ℕ
-IsScale = Then (IsSign 44) (λ _. IsOne whole)
+IsScale = Then (IsSign 44) (λ _. IsOne whole_number)
 
 -- ( whole number [ , whole number ] ), behind the word `Decimal` at this place
-abbrev pub IsDecimal : ℕ → Grammar (Judged ColType)
+abbrev pub IsDecimal : ℕ → Grammar (Verdict ColType)
 IsDecimal place =
-    Then (IsSign 40) (λ _. Then (IsOne whole) (λ digits. Then (Optional IsScale) (λ scale.
+    Then (IsSign 40) (λ _. Then (IsOne whole_number) (λ digits. Then (Optional IsScale) (λ scale.
     Made (λ _. decimal place digits (or_none scale)) (IsSign 41))))
 
 -- ( whole number ), behind the word of a Decimal of so many digits
-abbrev pub IsDigits : ℕ → ℕ → Grammar (Judged ColType)
-IsDigits place digits =
-    Then (IsSign 40) (λ _. Then (IsOne whole) (λ scale. Made (λ _. decimal place digits scale) (IsSign 41)))
+abbrev pub IsSizedDecimal : ℕ → ℕ → Grammar (Verdict ColType)
+IsSizedDecimal place digits =
+    Then (IsSign 40) (λ _. Then (IsOne whole_number) (λ scale. Made (λ _. decimal place digits scale) (IsSign 41)))
 
 -- what stands behind the name of a type
-abbrev pub IsBaseBehind : BaseName × ℕ → Grammar (Judged ColType)
+abbrev pub IsBaseBehind : BaseName × ℕ → Grammar (Verdict ColType)
 IsBaseBehind n = elim n.0 [
   | base.Plain t ↦ Standing (IsNothing t)
   | base.DateTime ↦ Standing (Made (λ _. type.DateTime) (Optional IsZone))
   | base.Decimal ↦ IsDecimal n.1
-  | base.Digits digits ↦ IsDigits n.1 digits
+  | base.Digits digits ↦ IsSizedDecimal n.1 digits
 ]
 
-abbrev pub IsBase : Grammar (Judged ColType)
+abbrev pub IsBase : Grammar (Verdict ColType)
 IsBase = Then (IsOne base_name) IsBaseBehind
 
 -- ( base )
-abbrev pub IsNullable : Grammar (Judged AttrType)
-IsNullable = Then (IsSign 40) (λ _. ThenJudged IsBase (λ t. Standing (Made (λ _. nullable t) (IsSign 41))))
+abbrev pub IsNullable : Grammar (Verdict AttrType)
+IsNullable = Then (IsSign 40) (λ _. ThenVerdict IsBase (λ t. Standing (Made (λ _. nullable t) (IsSign 41))))
 
-abbrev pub IsTypeBehind : TypeName × ℕ → Grammar (Judged AttrType)
+abbrev pub IsTypeBehind : TypeName × ℕ → Grammar (Verdict AttrType)
 IsTypeBehind n = elim n.0 [
   | name.Nullable ↦ IsNullable
-  | name.Base b ↦ MadeJudged not_null (IsBaseBehind (b, n.1))
+  | name.Base b ↦ MadeVerdict not_null (IsBaseBehind (b, n.1))
 ]
 
 -- Nullable ( base ) | base
-abbrev pub IsType : Grammar (Judged AttrType)
+abbrev pub IsType : Grammar (Verdict AttrType)
 IsType = Then (IsOne type_name) IsTypeBehind
 
 -- no type is followed by a bracket that isn't its own
@@ -81,12 +80,12 @@ abbrev pub IsDefault : Grammar Field
 IsDefault = Then (IsKeyword (codes "DEFAULT")) (λ _. IsOne literal)
 
 -- the word of a mark
-abbrev pub IsMark : Mark → Grammar Mark
-IsMark kind = Made (λ _. kind) (IsKeyword (word_of kind))
+abbrev pub IsColumnMark : Mark → Grammar Mark
+IsColumnMark kind = Made (λ _. kind) (IsKeyword (word_of kind))
 
 -- in any order, each at most once
 abbrev pub AreMarks : Grammar (List Mark)
-AreMarks = InAnyOrder mark_number mark_number IsMark wanted
+AreMarks = InAnyOrder mark_number mark_number IsColumnMark wanted_marks
 
 abbrev pub column : List ℕ → AttrType → Option Field → List Mark → Column
 column name ty default marks = record {
@@ -99,9 +98,9 @@ column name ty default marks = record {
 }
 
 -- word type [ DEFAULT literal ] { mark }
-abbrev pub IsColumn : Grammar (Judged Column)
+abbrev pub IsColumn : Grammar (Verdict Column)
 IsColumn =
-    Then (IsBytes is_name) (λ name. ThenJudged IsType (λ ty. Standing (Then (Optional IsDefault) (λ default.
+    Then (IsBytes is_name) (λ name. ThenVerdict IsType (λ ty. Standing (Then (Optional IsDefault) (λ default.
     Made (column name ty default) AreMarks))))
 
 -- no mark follows, and nothing that can't stand behind one
@@ -109,9 +108,9 @@ abbrev pub ColumnStops : Stopping Column
 ColumnStops c next = BeginsNone {A = Mark} mark_of [] next
 
 -- ( column { , column } )
-abbrev pub AreColumns : Grammar (Judged (List Column))
+abbrev pub AreColumns : Grammar (Verdict (List Column))
 AreColumns =
-    Then (IsSign 40) (λ _. ThenJudged (SeparatedJudged 44 IsColumn) (λ columns.
+    Then (IsSign 40) (λ _. ThenVerdict (SeparatedVerdict 44 IsColumn) (λ columns.
     Standing (Made (λ _. columns) (IsSign 41))))
 
 -- ---- keys
@@ -138,11 +137,11 @@ abbrev pub argument : List ℕ → AttrType → Arg
 argument name ty = record { name = name; ty = ty }
 
 -- word type
-abbrev pub IsArgument : Grammar (Judged Arg)
-IsArgument = Then (IsBytes is_name) (λ name. MadeJudged (argument name) IsType)
+abbrev pub IsArgument : Grammar (Verdict Arg)
+IsArgument = Then (IsBytes is_name) (λ name. MadeVerdict (argument name) IsType)
 
 -- ( ) | ( argument { , argument } )
-abbrev pub AreArguments : Grammar (Judged (List Arg))
+abbrev pub AreArguments : Grammar (Verdict (List Arg))
 AreArguments =
     Then (IsSign 40) (λ _. Either (Standing (Made (λ _. []) (IsSign 41)))
-    (ThenJudged (SeparatedJudged 44 IsArgument) (λ arguments. Standing (Made (λ _. arguments) (IsSign 41)))))
+    (ThenVerdict (SeparatedVerdict 44 IsArgument) (λ arguments. Standing (Made (λ _. arguments) (IsSign 41)))))

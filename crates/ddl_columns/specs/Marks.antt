@@ -1,5 +1,5 @@
 -- The marks of a column.
-use Rattle.std.specs.Prelude.{ℕ, if◌then◌else◌, List, [], codes, Option, Some, None, Ok, Err}
+use Rattle.std.specs.Prelude.{ℕ, if◌then◌else◌, List, [], codes, Some, None, Ok, Err}
 use Rattle.ddl_tokens.specs.declared.fault.SyntaxFault.TheVariants.{Unexpected, Unsupported}
 use Rattle.ddl_tokens.specs.Tokens.{Token}
 use Rattle.ddl_tokens.specs.Reading.{is_keyword, is_the_sign}
@@ -18,8 +18,8 @@ mark_number mark.ObjectId = 1
 mark_number mark.Injective = 2
 
 -- no mark must be there
-abbrev pub wanted : List ℕ
-wanted = []
+abbrev pub wanted_marks : List ℕ
+wanted_marks = []
 
 -- The mark that a token begins. Behind its type a column has no EXPRESSION, behind a default or a mark no DEFAULT, and
 -- no bracket (40).

@@ -15,8 +15,8 @@ use Rattle.dict_schema.specs.declared.definition.Column.{Column}
 use Rattle.ddl_tokens.specs.Tokens.{Token}
 use Rattle.ddl_tokens.specs.Reading.{◌>>=◌, Read, passes, is_keyword, is_name, is_the_sign, bytes_at, keyword_at, sign_at}
 use Rattle.ddl_tokens.specs.Reading.{bytes_ahead, is_number, is_string, of_kind, place_ahead, unexpected}
-use Rattle.ddl_tokens.specs.Lists.{Kind, Step, next_item, next_once, repeat, separated_at}
-use Rattle.ddl_tokens.specs.Judged.{told}
+use Rattle.ddl_tokens.specs.Lists.{Kind, Step, next_once, repeat, separated_at}
+use Rattle.ddl_tokens.specs.Verdicts.{told}
 use Rattle.ddl_columns.specs.declared.marks.Mark.{Mark}
 use Rattle.ddl_columns.specs.declared.marks.Mark.TheVariants as mark
 use Rattle.ddl_columns.specs.declared.types.BaseName.{BaseName}
@@ -24,7 +24,7 @@ use Rattle.ddl_columns.specs.declared.types.BaseName.TheVariants as base
 use Rattle.ddl_columns.specs.declared.types.TypeName.{TypeName}
 use Rattle.ddl_columns.specs.declared.types.TypeName.TheVariants as name
 use Rattle.ddl_columns.specs.Types.{decimal, listed, not_null, not_nullable, nullable, or_none, reads, type_named, whole_of}
-use Rattle.ddl_columns.specs.Marks.{mark_number, mark_of, wanted, word_of}
+use Rattle.ddl_columns.specs.Marks.{mark_number, mark_of, wanted_marks, word_of}
 use Rattle.ddl_columns.specs.Grammar.{argument, column}
 
 -- ---- one token
@@ -157,7 +157,7 @@ mark_ahead ts =
     else Ok None
 
 unfoldable pub next_mark : Step (List Mark)
-next_mark before ts = next_once mark_of mark_at mark_number mark_number wanted before ts
+next_mark before ts = next_once mark_of mark_at mark_number mark_number wanted_marks before ts
 
 unfoldable pub column_at : List Token → Read Column
 column_at ts = do
@@ -167,8 +167,8 @@ column_at ts = do
   marks ← repeat next_mark [] default.1
   Ok (column name.0 type.0 default.0 marks.0, marks.1)
 
-unfoldable pub columns_at : List Token → Read (List Column)
-columns_at ts = do
+unfoldable pub column_list_at : List Token → Read (List Column)
+column_list_at ts = do
   begin ← sign_at 40 ts
   columns ← separated_at 44 column_at begin.1
   close ← sign_at 41 columns.1

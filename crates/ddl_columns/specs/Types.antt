@@ -12,7 +12,7 @@ use Rattle.ddl_tokens.specs.declared.letters.LetterCase.TheVariants.{AsWritten}
 use Rattle.ddl_tokens.specs.Letters.{same_letters}
 use Rattle.ddl_tokens.specs.Tokens.{Token}
 use Rattle.ddl_tokens.specs.Reading.{◌>>=◌, is_name, is_number, is_string}
-use Rattle.ddl_tokens.specs.Judged.{Judged, stands, refused}
+use Rattle.ddl_tokens.specs.Verdicts.{Verdict, stands, falls}
 use Rattle.ddl_columns.specs.declared.types.BaseName.{BaseName}
 use Rattle.ddl_columns.specs.declared.types.BaseName.TheVariants as base
 use Rattle.ddl_columns.specs.declared.types.TypeName.{TypeName}
@@ -23,29 +23,29 @@ use Rattle.ddl_columns.specs.declared.types.TypeName.TheVariants as name
 abbrev pub reads : List ℕ → List ℕ → Bool
 reads word bytes = same_letters AsWritten bytes word
 
-abbrev pub plain : ColType → Option TypeName
-plain t = Some (name.Base (base.Plain t))
+abbrev pub plain_named : ColType → Option TypeName
+plain_named t = Some (name.Base (base.Plain t))
 
 unfoldable pub number_named : List ℕ → Option TypeName
 number_named bytes =
-    if reads (codes "UInt8") bytes then plain type.UInt8
-    else if reads (codes "UInt16") bytes then plain type.UInt16
-    else if reads (codes "UInt32") bytes then plain type.UInt32
-    else if reads (codes "UInt64") bytes then plain type.UInt64
-    else if reads (codes "Int8") bytes then plain type.Int8
-    else if reads (codes "Int16") bytes then plain type.Int16
-    else if reads (codes "Int32") bytes then plain type.Int32
-    else if reads (codes "Int64") bytes then plain type.Int64
+    if reads (codes "UInt8") bytes then plain_named type.UInt8
+    else if reads (codes "UInt16") bytes then plain_named type.UInt16
+    else if reads (codes "UInt32") bytes then plain_named type.UInt32
+    else if reads (codes "UInt64") bytes then plain_named type.UInt64
+    else if reads (codes "Int8") bytes then plain_named type.Int8
+    else if reads (codes "Int16") bytes then plain_named type.Int16
+    else if reads (codes "Int32") bytes then plain_named type.Int32
+    else if reads (codes "Int64") bytes then plain_named type.Int64
     else None
 
 unfoldable pub text_named : List ℕ → Option TypeName
 text_named bytes =
-    if reads (codes "String") bytes then plain type.Str
-    else if reads (codes "Date") bytes then plain type.Date
+    if reads (codes "String") bytes then plain_named type.Str
+    else if reads (codes "Date") bytes then plain_named type.Date
     else if reads (codes "DateTime") bytes then Some (name.Base base.DateTime)
-    else if reads (codes "UUID") bytes then plain type.Uuid
-    else if reads (codes "IPv4") bytes then plain type.Ipv4
-    else if reads (codes "IPv6") bytes then plain type.Ipv6
+    else if reads (codes "UUID") bytes then plain_named type.Uuid
+    else if reads (codes "IPv4") bytes then plain_named type.Ipv4
+    else if reads (codes "IPv6") bytes then plain_named type.Ipv6
     else None
 
 unfoldable pub decimal_named : List ℕ → Option TypeName
@@ -97,16 +97,16 @@ abbrev pub whole_of : ℕ → Result ℕ BadValue → Result ℕ SyntaxFault
 whole_of place (Ok n) = Ok n
 whole_of place (Err fault) = Err (Unexpected place)
 
-abbrev pub whole : Token → Result ℕ SyntaxFault
-whole t = if is_number t.kind then whole_of t.place (unsigned_of 64 t.bytes) else Err (Unexpected t.place)
+abbrev pub whole_number : Token → Result ℕ SyntaxFault
+whole_number t = if is_number t.kind then whole_of t.place (unsigned_of 64 t.bytes) else Err (Unexpected t.place)
 
 -- ---- Decimals
 
 -- A Decimal has 1 to 38 digits, and at most as many behind the point; another isn't supported, at its word.
-abbrev pub decimal : ℕ → ℕ → ℕ → Judged ColType
+abbrev pub decimal : ℕ → ℕ → ℕ → Verdict ColType
 decimal place digits scale =
     if nat_le 1 digits && nat_le digits 38 && nat_le scale digits then stands (type.Decimal digits scale)
-    else refused (Unsupported place)
+    else falls (Unsupported place)
 
 -- without its second number a Decimal has no digits behind the point
 abbrev pub or_none : Option ℕ → ℕ

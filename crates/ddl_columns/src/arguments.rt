@@ -7,7 +7,7 @@ ghost use Rattle.ddl_tokens.specs.Tokens.{Token};
 ghost use Rattle.ddl_tokens.specs.Reading.{Gives};
 ghost use Rattle.ddl_tokens.specs.Laws.{Anyhow, Begins, IfSyntax, first};
 ghost use Rattle.ddl_tokens.specs.Lists.{GivesStep, next_item, repeat, separated_at};
-ghost use Rattle.ddl_tokens.specs.Judged.{Judged, IsFirstFault, JudgedStops, answer, stands};
+ghost use Rattle.ddl_tokens.specs.Verdicts.{Verdict, IsLeastOrFalls, VerdictStops, answer, stands};
 ghost use Rattle.ddl_columns.specs.Grammar.{AreArguments};
 ghost use Rattle.ddl_columns.specs.Reading.{argument_at, arguments_at, closed_arguments_at, some_arguments_at};
 
@@ -100,13 +100,13 @@ pub fn read_arguments(alloc: Global, r: &mut Reader<'_>) -> Result<ListOf<Arg>, 
     // The kind of a fault is that of the reading.
     ensures exact { Gives (λ arguments. arguments) result r.new (arguments_at r.old) }
     // What is read is in the grammar.
-    ensures found { IfOk result (λ arguments. Begins AreArguments (JudgedStops Anyhow) r.old (stands arguments) r.new) }
+    ensures found { IfOk result (λ arguments. Begins AreArguments (VerdictStops Anyhow) r.old (stands arguments) r.new) }
     // What is in the grammar is read, and as nothing else.
-    ensures only { (own rest : List Token) (arguments : Judged (List Arg)) → r.old ≡ own ++ rest
-        → AreArguments arguments own → JudgedStops Anyhow arguments (first rest)
+    ensures only { (own rest : List Token) (arguments : Verdict (List Arg)) → r.old ≡ own ++ rest
+        → AreArguments arguments own → VerdictStops Anyhow arguments (first rest)
         → UnlessNoMemory (Err fault.NoMemory) result (result ≡ answer arguments) }
     // A fault is the first.
-    ensures first { IfSyntax result (λ e. IsFirstFault AreArguments Anyhow r.old e) }
+    ensures first { IfSyntax result (λ e. IsLeastOrFalls AreArguments Anyhow r.old e) }
     ensures shorter { OnOk result (length r.new < length r.old) }
 {
     all_arguments(alloc, r)

@@ -7,9 +7,9 @@ ghost use Rattle.ddl_tokens.specs.Tokens.{Token};
 ghost use Rattle.ddl_tokens.specs.Reading.{Gives};
 ghost use Rattle.ddl_tokens.specs.Laws.{Anyhow, Begins, IfSyntax, first};
 ghost use Rattle.ddl_tokens.specs.Lists.{GivesStep, next_item, repeat, separated_at};
-ghost use Rattle.ddl_tokens.specs.Judged.{Judged, IsFirstFault, JudgedStops, answer, stands};
+ghost use Rattle.ddl_tokens.specs.Verdicts.{Verdict, IsLeastOrFalls, VerdictStops, answer, stands};
 ghost use Rattle.ddl_columns.specs.Grammar.{AreColumns};
-ghost use Rattle.ddl_columns.specs.Reading.{column_at, columns_at};
+ghost use Rattle.ddl_columns.specs.Reading.{column_at, column_list_at};
 
 use crate::defaults::{default, default_given};
 use crate::marks::{Mark, column_marks, has_mark};
@@ -82,9 +82,9 @@ fn some_columns(alloc: Global, r: &mut Reader<'_>) -> Result<ListOf<Column>, Rea
     more_columns(alloc, r, columns)
 }
 
-#[tactic(auto, unfolding(crate::specs::Reading::columns_at))]
+#[tactic(auto, unfolding(crate::specs::Reading::column_list_at))]
 fn all_columns(alloc: Global, r: &mut Reader<'_>) -> Result<ListOf<Column>, ReadFault>
-    ensures value { Gives (λ columns. columns) result r.new (columns_at r.old) }
+    ensures value { Gives (λ columns. columns) result r.new (column_list_at r.old) }
     ensures shorter { OnOk result (length r.new < length r.old) }
 {
     r.sign(b'(')?;
@@ -96,15 +96,15 @@ fn all_columns(alloc: Global, r: &mut Reader<'_>) -> Result<ListOf<Column>, Read
 /// Columns in brackets. A default that is no text of its column's type is a value of no type.
 pub fn read_columns(alloc: Global, r: &mut Reader<'_>) -> Result<ListOf<Column>, ReadFault>
     // The kind of a fault is that of the reading.
-    ensures exact { Gives (λ columns. columns) result r.new (columns_at r.old) }
+    ensures exact { Gives (λ columns. columns) result r.new (column_list_at r.old) }
     // What is read is in the grammar.
-    ensures found { IfOk result (λ columns. Begins AreColumns (JudgedStops Anyhow) r.old (stands columns) r.new) }
+    ensures found { IfOk result (λ columns. Begins AreColumns (VerdictStops Anyhow) r.old (stands columns) r.new) }
     // What is in the grammar is read, and as nothing else.
-    ensures only { (own rest : List Token) (columns : Judged (List Column)) → r.old ≡ own ++ rest
-        → AreColumns columns own → JudgedStops Anyhow columns (first rest)
+    ensures only { (own rest : List Token) (columns : Verdict (List Column)) → r.old ≡ own ++ rest
+        → AreColumns columns own → VerdictStops Anyhow columns (first rest)
         → UnlessNoMemory (Err fault.NoMemory) result (result ≡ answer columns) }
     // A fault is the first.
-    ensures first { IfSyntax result (λ e. IsFirstFault AreColumns Anyhow r.old e) }
+    ensures first { IfSyntax result (λ e. IsLeastOrFalls AreColumns Anyhow r.old e) }
     ensures shorter { OnOk result (length r.new < length r.old) }
 {
     all_columns(alloc, r)

@@ -10,7 +10,7 @@ use dict_value::ListOf;
 use std::alloc::Global;
 
 /// What a column says of itself.
-#[derive(Clone, Copy, Debug, PartialEq, Eq)]
+#[derive(Clone, Copy)]
 pub(crate) enum Mark {
     Hierarchical,
     ObjectId,

@@ -1,13 +1,13 @@
 // Types of columns and arguments.
 ghost use Rattle.std.specs.Prelude.{◌≡◌, ◌≢◌, ◌++◌, ◌<◌, ◌≤◌, length, List, Err, IfOk, OnOk};
 ghost use Rattle.dict_value.specs.declared.value.AttrType.{AttrType};
-ghost use Rattle.ddl_tokens.specs.Judged.{Judged, IsFirstFault, JudgedStops, answer, stands};
+ghost use Rattle.ddl_tokens.specs.Verdicts.{Verdict, IsLeastOrFalls, VerdictStops, answer, stands};
 ghost use Rattle.ddl_tokens.specs.Laws.{Begins, IfSyntax, first};
 ghost use Rattle.ddl_tokens.specs.Reading.{Gives, bytes_ahead};
 ghost use Rattle.ddl_tokens.specs.Tokens.{Token};
 ghost use Rattle.ddl_tokens.specs.declared.fault.ReadFault.TheVariants as fault;
 ghost use Rattle.ddl_columns.specs.Grammar.{IsType, TypeStops};
-ghost use Rattle.ddl_columns.specs.Types.{number_named, text_named, decimal_named, plain, type_named, decimal};
+ghost use Rattle.ddl_columns.specs.Types.{number_named, text_named, decimal_named, plain_named, type_named, decimal};
 ghost use Rattle.ddl_columns.specs.Reading.{base_at, base_behind, base_named_at, date_time_at, decimal_at, digits_at};
 ghost use Rattle.ddl_columns.specs.Reading.{ended_at, named_at, nullable_at, scale_at, type_at, type_behind, zone_at};
 ghost use Rattle.ddl_columns.specs.Reading.{zone_in_brackets_at};
@@ -18,7 +18,7 @@ use dict_value::{AttrType, ColType};
 use std::alloc::Global;
 
 /// What the name of a type says, NULL aside.
-#[derive(Clone, Copy, Debug, PartialEq, Eq)]
+#[derive(Clone, Copy)]
 pub(crate) enum BaseName {
     /// The type itself.
     Plain(ColType),
@@ -29,7 +29,7 @@ pub(crate) enum BaseName {
 }
 
 /// What the name of a type says.
-#[derive(Clone, Copy, Debug, PartialEq, Eq)]
+#[derive(Clone, Copy)]
 pub(crate) enum TypeName {
     Nullable,
     Base(BaseName),
@@ -101,7 +101,7 @@ fn decimal_named(r: &Reader<'_>) -> Option<TypeName>
 }
 
 fn plain(base: ColType) -> Option<TypeName>
-    ensures { result ≡ plain base }
+    ensures { result ≡ plain_named base }
 {
     Some(TypeName::Base(BaseName::Plain(base)))
 }
@@ -353,13 +353,13 @@ pub fn read_type(alloc: Global, r: &mut Reader<'_>) -> Result<AttrType, ReadFaul
     // The kind of a fault is that of the reading.
     ensures exact { Gives (λ ty. ty) result r.new (type_at r.old) }
     // What is read is in the grammar.
-    ensures found { IfOk result (λ ty. Begins IsType (JudgedStops TypeStops) r.old (stands ty) r.new) }
+    ensures found { IfOk result (λ ty. Begins IsType (VerdictStops TypeStops) r.old (stands ty) r.new) }
     // What is in the grammar is read, and as nothing else.
-    ensures only { (own rest : List Token) (ty : Judged AttrType) → r.old ≡ own ++ rest → IsType ty own
-        → JudgedStops TypeStops ty (first rest)
+    ensures only { (own rest : List Token) (ty : Verdict AttrType) → r.old ≡ own ++ rest → IsType ty own
+        → VerdictStops TypeStops ty (first rest)
         → result ≡ answer ty }
     // A fault is the first.
-    ensures first { IfSyntax result (λ e. IsFirstFault IsType TypeStops r.old e) }
+    ensures first { IfSyntax result (λ e. IsLeastOrFalls IsType TypeStops r.old e) }
     ensures takes_none { result ≢ Err fault.NoMemory }
     ensures shorter { OnOk result (length r.new < length r.old) }
 {

@@ -8,4 +8,4 @@ pub mod Repeats
 pub mod Lists
 pub mod Once
 pub mod Loops
-pub mod Judged
+pub mod Verdicts

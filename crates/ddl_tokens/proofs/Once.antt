@@ -11,7 +11,7 @@ use Rattle.ddl_tokens.specs.Lists.{More, go, stop, repeat, Many, none, more, has
 use Rattle.ddl_tokens.proofs.Laws.{bind_ok, bind_err, first_front, test_cases, knowing, stopping}
 use Rattle.ddl_tokens.proofs.Repeats.{many_then, Goes, Stopped, StepFaults, Steps, repeats}
 
-place_same : (ts us : List Token) → first ts ≡ first us → place_ahead ts ≡ place_ahead us
+pub place_same : (ts us : List Token) → first ts ≡ first us → place_ahead ts ≡ place_ahead us
 place_same [] [] e = refl
 place_same [] (u ∷ us) e = absurd cc
 place_same (t ∷ ts) [] e = absurd cc

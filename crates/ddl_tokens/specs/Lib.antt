@@ -6,5 +6,5 @@ pub mod Lines
 pub mod Reading
 pub mod Laws
 pub mod Lists
-pub mod Judged
+pub mod Verdicts
 pub mod steps

@@ -1,7 +1,7 @@
 ghost use Rattle.std.specs.Prelude.{◌<◌, length};
 
 use crate::{LetterCase, ReadFault, Reader, SyntaxFault, TokenKind, line_of};
-use dict_value::{Bytes, NoMemory};
+use dict_value::{Bytes, NoMemory, split_at_byte};
 use std::alloc::Global;
 use std::test::Fail;
 
@@ -49,87 +49,105 @@ fn show(alloc: Global, text: &[u8], places: bool, out: &mut Bytes) -> Result<(),
     Ok(())
 }
 
+/// Each row has a text, a unit separator (1f), and its tokens: the letter of each one's kind, its place,
+/// and its bytes. A record separator (1e) ends a row; one that begins with # has no text.
+const ROWS: &[u8] = b"
+# nothing but blanks and comments\x1e
+\x1f.0\x1e
+ \t\r\n\x1f.4\x1e
+-- c\x1f.4\x1e
+--\x1f.2\x1e
+--\n--\x1f.5\x1e
+/* c */\x1f.7\x1e
+# quoted texts and comments without their end\x1e
+a 'bc\x1fw0:a !2\x1e
+a `bc''\x1fw0:a !2\x1e
+a \"bc'\x1fw0:a !2\x1e
+a /* bc\x1fw0:a !2\x1e
+a /*/\x1fw0:a !2\x1e
+'a''b\x1f!0\x1e
+'''\x1f!0\x1e
+'a\\'\x1f!0\x1e
+'a\\\x1f!0\x1e
+# `\\x` without two digits\x1e
+a 'b\\x4'\x1fw0:a !4\x1e
+a 'b\\x4g'\x1fw0:a !4\x1e
+a 'b\\xg4'\x1fw0:a !4\x1e
+a 'b\\x'\x1fw0:a !4\x1e
+'\\x41\\x\\x'\x1f!5\x1e
+`\\x``4`\x1f!1\x1e
+a 'b\\x4\x1fw0:a !2\x1e
+'\\x4\\'\x1f!0\x1e
+# bytes that begin no token\x1e
+a $\x1fw0:a !2\x1e
+a\\b\x1fw0:a !1\x1e
+a - b\x1fw0:a !2\x1e
+a + b\x1fw0:a !2\x1e
+a / b\x1fw0:a !2\x1e
+a * b\x1fw0:a !2\x1e
+a\xc3\xa9\x1fw0:a !1\x1e
+a\0\x1fw0:a !1\x1e
+-a\x1f!0\x1e
+# quote signs in quotes\x1e
+'it''s'\x1fs0:it's .7\x1e
+'a\\'b'\x1fs0:a'b .6\x1e
+`a``b`\x1fq0:a`b .6\x1e
+\"a\"\"b\"\x1fq0:a\"b .6\x1e
+'a\"b`c'\x1fs0:a\"b`c .7\x1e
+''\x1fs0: .2\x1e
+''''\x1fs0:' .4\x1e
+'' ''\x1fs0: s3: .5\x1e
+# comment signs in quotes\x1e
+'--' '/*' '*/'\x1fs0:-- s5:/* s10:*/ .14\x1e
+`--`\x1fq0:-- .4\x1e
+# escapes\x1e
+'\\b\\f\\r\\n\\t\\0\\a\\v'\x1fs0:\x08\x0c\r\n\t\0\x07\x0b .18\x1e
+'\\x41\\x7e\\xFf\\x0a'\x1fs0:A~\xff\n .18\x1e
+'\\\\\\q\\N\\B\\X'\x1fs0:\\qNBX .12\x1e
+`\\t\\`` \"\\x22\"\x1fq0:\t` q7:\" .13\x1e
+# comments end at their first end\x1e
+-- 'a\nb\x1fw6:b .7\x1e
+a--b\r\nc\x1fw0:a w6:c .7\x1e
+/* ' -- */b\x1fw10:b .11\x1e
+/* /* */ */\x1f!9\x1e
+/***/a/**/b\x1fw5:a w10:b .11\x1e
+/*/*/a\x1fw5:a .6\x1e
+# words, numbers and signs\x1e
+a_1 _b B2x\x1fw0:a_1 w4:_b w7:B2x .10\x1e
+1 +2 -30\x1fn0:1 n2:+2 n5:-30 .8\x1e
+4.5 -6.70 007\x1fn0:4.5 n4:-6.70 n10:007 .13\x1e
+1. .5 1.2.3\x1fn0:1 p1:. p3:. n4:5 n6:1.2 p9:. n10:3 .11\x1e
+1a 2-3 4--5\x1fn0:1 w1:a n3:2 n4:-3 n7:4 .11\x1e
+(),;.=\x1fp0:( p1:) p2:, p3:; p4:. p5:= .6\x1e
+a.b\x1fw0:a p1:. w2:b .3\x1e
+f(a,'b')\x1fw0:f p1:( w2:a p3:, s4:b p7:) .8\x1e
+";
+
+/// Whether the text of a row has the tokens that the row tells.
+fn holds(alloc: Global, row: &[u8]) -> Result<bool, NoMemory> {
+    let [b'\n', row @ ..] = row else {
+        return Ok(false);
+    };
+    let Some((text, wanted)) = split_at_byte(row, 0x1f) else {
+        return Ok(matches!(row, [b'#', ..]));
+    };
+    let mut out = Bytes::new(alloc);
+    show(alloc, text, true, &mut out)?;
+    Ok(out.as_slice() == wanted)
+}
+
 #[test]
 fn tokens_with_their_places(rt: HostRuntime) -> Result<(), Fail> {
-    let cases: [(&[u8], &[u8]); 60] = [
-        // nothing but blanks and comments
-        (b"", b".0"),
-        (b" \t\r\n", b".4"),
-        (b"-- c", b".4"),
-        (b"--", b".2"),
-        (b"--\n--", b".5"),
-        (b"/* c */", b".7"),
-        // quoted texts and comments without their end
-        (b"a 'bc", b"w0:a !2"),
-        (b"a `bc''", b"w0:a !2"),
-        (b"a \"bc'", b"w0:a !2"),
-        (b"a /* bc", b"w0:a !2"),
-        (b"a /*/", b"w0:a !2"),
-        (b"'a''b", b"!0"),
-        (b"'''", b"!0"),
-        (b"'a\\'", b"!0"),
-        (b"'a\\", b"!0"),
-        // `\x` without two digits
-        (b"a 'b\\x4'", b"w0:a !4"),
-        (b"a 'b\\x4g'", b"w0:a !4"),
-        (b"a 'b\\xg4'", b"w0:a !4"),
-        (b"a 'b\\x'", b"w0:a !4"),
-        (b"'\\x41\\x\\x'", b"!5"),
-        (b"`\\x``4`", b"!1"),
-        (b"a 'b\\x4", b"w0:a !2"),
-        (b"'\\x4\\'", b"!0"),
-        // bytes that begin no token
-        (b"a $", b"w0:a !2"),
-        (b"a\\b", b"w0:a !1"),
-        (b"a - b", b"w0:a !2"),
-        (b"a + b", b"w0:a !2"),
-        (b"a / b", b"w0:a !2"),
-        (b"a * b", b"w0:a !2"),
-        (b"a\xc3\xa9", b"w0:a !1"),
-        (b"a\0", b"w0:a !1"),
-        (b"-a", b"!0"),
-        // quote signs in quotes
-        (b"'it''s'", b"s0:it's .7"),
-        (b"'a\\'b'", b"s0:a'b .6"),
-        (b"`a``b`", b"q0:a`b .6"),
-        (b"\"a\"\"b\"", b"q0:a\"b .6"),
-        (b"'a\"b`c'", b"s0:a\"b`c .7"),
-        (b"''", b"s0: .2"),
-        (b"''''", b"s0:' .4"),
-        (b"'' ''", b"s0: s3: .5"),
-        // comment signs in quotes
-        (b"'--' '/*' '*/'", b"s0:-- s5:/* s10:*/ .14"),
-        (b"`--`", b"q0:-- .4"),
-        // escapes
-        (
-            b"'\\b\\f\\r\\n\\t\\0\\a\\v'",
-            b"s0:\x08\x0c\r\n\t\0\x07\x0b .18",
-        ),
-        (b"'\\x41\\x7e\\xFf\\x0a'", b"s0:A~\xff\n .18"),
-        (b"'\\\\\\q\\N\\B\\X'", b"s0:\\qNBX .12"),
-        (b"`\\t\\`` \"\\x22\"", b"q0:\t` q7:\" .13"),
-        // comments end at their first end
-        (b"-- 'a\nb", b"w6:b .7"),
-        (b"a--b\r\nc", b"w0:a w6:c .7"),
-        (b"/* ' -- */b", b"w10:b .11"),
-        (b"/* /* */ */", b"!9"),
-        (b"/***/a/**/b", b"w5:a w10:b .11"),
-        (b"/*/*/a", b"w5:a .6"),
-        // words, numbers and signs
-        (b"a_1 _b B2x", b"w0:a_1 w4:_b w7:B2x .10"),
-        (b"1 +2 -30", b"n0:1 n2:+2 n5:-30 .8"),
-        (b"4.5 -6.70 007", b"n0:4.5 n4:-6.70 n10:007 .13"),
-        (b"1. .5 1.2.3", b"n0:1 p1:. p3:. n4:5 n6:1.2 p9:. n10:3 .11"),
-        (b"1a 2-3 4--5", b"n0:1 w1:a n3:2 n4:-3 n7:4 .11"),
-        (b"(),;.=", b"p0:( p1:) p2:, p3:; p4:. p5:= .6"),
-        (b"a.b", b"w0:a p1:. w2:b .3"),
-        (b"f(a,'b')", b"w0:f p1:( w2:a p3:, s4:b p7:) .8"),
-    ];
-    for (text, wanted) in cases {
-        let mut out = Bytes::new(rt.alloc());
-        show(rt.alloc(), text, true, &mut out)?;
-        assert_eq!(rt; out.as_slice(), wanted);
+    let mut rest = ROWS;
+    for number in 0..ROWS.len() {
+        let Some((row, others)) = split_at_byte(rest, 0x1e) else {
+            assert_eq!(rt; number, 69);
+            return Ok(());
+        };
+        assert!(rt; holds(rt.alloc(), row)?, "row {number}");
+        rest = others;
     }
+    assert!(rt; false);
     Ok(())
 }
 

@@ -1,4 +1,4 @@
-use Rattle.ddl_tokens.proofs.Judged.{judged_first, judged_found, judged_only}
+use Rattle.ddl_tokens.proofs.Verdicts.{judged_first, judged_found, judged_only}
 use Rattle.ddl_columns.proofs.ArgumentLaws.{arguments_law}
 use Rattle.ddl_columns.proofs.arguments.read_arguments.Goals as goal
 

@@ -1,4 +1,4 @@
-use Rattle.ddl_tokens.proofs.Judged.{judged_first, judged_found, judged_only}
+use Rattle.ddl_tokens.proofs.Verdicts.{judged_first, judged_found, judged_only}
 use Rattle.ddl_columns.proofs.ColumnLaws.{columns_law}
 use Rattle.ddl_columns.proofs.columns.read_columns.Goals as goal
 

@@ -1,4 +1,4 @@
-use Rattle.ddl_tokens.proofs.Judged.{judged_first, judged_found, judged_only}
+use Rattle.ddl_tokens.proofs.Verdicts.{judged_first, judged_found, judged_only}
 use Rattle.ddl_columns.proofs.TypeLaws.{type_law}
 use Rattle.ddl_columns.proofs.types.read_type.Goals as goal
 
