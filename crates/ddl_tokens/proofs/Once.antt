@@ -11,7 +11,7 @@ use Rattle.ddl_tokens.specs.Lists.{More, go, stop, repeat, Many, none, more, has
 use Rattle.ddl_tokens.proofs.Laws.{bind_ok, bind_err, first_front, test_cases, knowing, stopping}
 use Rattle.ddl_tokens.proofs.Repeats.{many_then, Goes, Stopped, StepFaults, Steps, repeats}
 
-place_same : (ts us : List Token) → first ts ≡ first us → place_ahead ts ≡ place_ahead us
+pub place_same : (ts us : List Token) → first ts ≡ first us → place_ahead ts ≡ place_ahead us
 place_same [] [] e = refl
 place_same [] (u ∷ us) e = absurd cc
 place_same (t ∷ ts) [] e = absurd cc
@@ -32,12 +32,12 @@ lack false n m a ts us e h = let k : Unexpected n ≡ e = cc in (ap place_of k, 
 
 -- ---- numbers that are there
 
-there : {A : Type 0} (number : A → ℕ) (n : ℕ) (a : List A) (x : A) → number x ≡ n → has_number number n (a ++ x ∷ []) ≡ true
+pub there : {A : Type 0} (number : A → ℕ) (n : ℕ) (a : List A) (x : A) → number x ≡ n → has_number number n (a ++ x ∷ []) ≡ true
 unfolding has_number
 there number n [] x e = cond-true (number x == n) _ _ (eq-eqb (number x) n e)
 there number n (y ∷ a) x e = elim (cases_Bool (number y == n)) [ inl h ↦ cond-true (number y == n) _ _ h | inr h ↦ cond-false (number y == n) _ _ h ∙ there number n a x e ]
 
-stays : {A : Type 0} (number : A → ℕ) (n : ℕ) (a : List A) (x : A) → has_number number n a ≡ true → has_number number n (a ++ x ∷ []) ≡ true
+pub stays : {A : Type 0} (number : A → ℕ) (n : ℕ) (a : List A) (x : A) → has_number number n a ≡ true → has_number number n (a ++ x ∷ []) ≡ true
 unfolding has_number
 stays number n [] x e = absurd cc
 stays number n (y ∷ a) x e = elim (cases_Bool (number y == n)) [
