@@ -1,32 +1,29 @@
 -- The clauses are read by their grammar: each part names the law that it is put together by.
-use Rattle.std.proofs.Common.{◌≡◌, ℕ, Bool, true, false, cond, List, [], ◌∷◌, ◌++◌, Option, Some, None, Ok, Err, refl, sym, ap, subst, ◌∙◌, inl, inr}
+use Rattle.std.proofs.Common.{◌≡◌, ℕ, Bool, true, false, cond, List, [], ◌∷◌, ◌++◌, Option, Some, None, Ok, refl, sym, ap, subst, ◌∙◌, inl, inr}
 use Rattle.std.specs.Prelude.{codes}
 use mathlib.Core.Path.{fun_ext}
 use Rattle.std.proofs.lemmas.Bool.{cond-true, cond-false}
 use Rattle.ddl_tokens.specs.declared.token.TokenKind.{TokenKind}
 use Rattle.ddl_tokens.specs.declared.token.TokenKind.TheVariants.{Word, Number, String}
-use Rattle.ddl_tokens.specs.declared.fault.SyntaxFault.{SyntaxFault}
-use Rattle.ddl_tokens.specs.declared.fault.SyntaxFault.TheVariants.{Unexpected, UnknownSetting, Unsupported}
+use Rattle.ddl_tokens.specs.declared.fault.SyntaxFault.TheVariants.{Unexpected, Unsupported}
 use Rattle.ddl_tokens.specs.declared.letters.LetterCase.TheVariants.{Any}
 use Rattle.ddl_tokens.specs.Letters.{same_letters}
 use Rattle.ddl_tokens.specs.Tokens.{Token}
 use Rattle.ddl_tokens.specs.Reading.{◌>>=◌, is_keyword, is_the_sign, is_word, is_name, is_number, is_string, of_kind, passes}
-use Rattle.ddl_tokens.specs.Laws.{Grammar, Stopping, first, place_of, Anyhow, Lawful, IsKeyword, IsSign, Then, Either, Made, Optional, OptionalStops}
+use Rattle.ddl_tokens.specs.Laws.{first, Anyhow, Lawful, IsKeyword, IsSign, Then, Either, Made, Optional, OptionalStops}
 use Rattle.ddl_tokens.specs.Lists.{Step, next_once, once_of, kind_at, repeat, BeginsNone}
-use Rattle.ddl_tokens.proofs.Laws.{Passes, Fails, by_token, bytes, first_passes, headed, judged_ok, keyword, keywords_apart, made, optional, sign, signs_apart, stopping, test_cases, then, then_after}
+use Rattle.ddl_tokens.proofs.Laws.{Passes, Fails, by_token, bytes, headed, judged_ok, keyword, keywords_apart, made, optional, sign, signs_apart, stopping, test_cases, then, then_after}
 use Rattle.ddl_tokens.proofs.Once.{in_any_order}
-use Rattle.dict_schema.specs.declared.definition.Lifetime.{Lifetime}
 use Rattle.ddl_clauses.specs.declared.clause.Clause.{Clause}
 use Rattle.ddl_clauses.specs.declared.clause.Clause.TheVariants as clause
 use Rattle.ddl_clauses.specs.declared.clause.ClauseKind.{ClauseKind}
 use Rattle.ddl_clauses.specs.declared.clause.ClauseKind.TheVariants as kind
-use Rattle.ddl_clauses.specs.declared.layouts.LayoutName.{LayoutName}
 use Rattle.ddl_clauses.specs.declared.settings.Owner.{Owner}
 use Rattle.ddl_clauses.specs.declared.settings.Owner.TheVariants.{Dictionary, Function}
 use Rattle.ddl_clauses.specs.declared.settings.Section.{Section}
 use Rattle.ddl_clauses.specs.declared.settings.Setting.{Setting}
 use Rattle.ddl_clauses.specs.Settings.{source_section, wanted_settings}
-use Rattle.ddl_clauses.specs.Choices.{chosen_at, meant_by, source_kind_in, whole_in, most_whole, most_short}
+use Rattle.ddl_clauses.specs.Choices.{chosen_at, meant_by, source_kind_in, most_whole, most_short}
 use Rattle.ddl_clauses.specs.Layouts.{all_layouts, layout_named, layout_section}
 use Rattle.ddl_clauses.specs.SettingLists.{settings_in_brackets_at}
 use Rattle.ddl_clauses.specs.Clauses.{source, layout, lifetime, range, or_empty, has_some, clause_number, number_of_clause, wanted_clauses, clause_kind, written_function}

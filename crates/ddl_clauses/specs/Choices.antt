@@ -17,7 +17,7 @@ use Rattle.ddl_tokens.specs.declared.letters.LetterCase.TheVariants.{Any, AsWrit
 use Rattle.ddl_tokens.specs.declared.token.TokenKind.{TokenKind}
 use Rattle.ddl_tokens.specs.declared.token.TokenKind.TheVariants.{Word, QuotedWord, Number, String}
 use Rattle.ddl_tokens.specs.declared.fault.SyntaxFault.{SyntaxFault}
-use Rattle.ddl_tokens.specs.declared.fault.SyntaxFault.TheVariants.{Unexpected, UnknownSetting, Unsupported}
+use Rattle.ddl_tokens.specs.declared.fault.SyntaxFault.TheVariants.{Unexpected, Unsupported}
 use Rattle.ddl_tokens.specs.Letters.{is_word_start, is_word_byte, same_letters}
 use Rattle.ddl_tokens.specs.Tokens.{Token}
 use Rattle.ddl_tokens.specs.Reading.{◌>>=◌, Read, kind_ahead, place_ahead, bytes_ahead, unexpected}

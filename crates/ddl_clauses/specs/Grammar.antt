@@ -1,12 +1,10 @@
 -- The grammar of the clauses: which tokens are which clauses.
-use Rattle.std.specs.Prelude.{◌≡◌, ℕ, Bool, true, false, IsTrue, List, [], ◌∷◌, ◌++◌, codes, Option, Some, None, Result}
+use Rattle.std.specs.Prelude.{◌≡◌, ℕ, Bool, true, false, IsTrue, List, ◌++◌, codes, Option, Some, None, Result}
 use Rattle.std.specs.Prelude.{Ok, Err}
 use Rattle.dict_value.specs.Memory.{UnlessNoMemory}
 use Rattle.ddl_tokens.specs.declared.fault.ReadFault.{ReadFault}
 use Rattle.ddl_tokens.specs.declared.fault.ReadFault.TheVariants as fault
-use Rattle.dict_schema.specs.declared.definition.Kind.{Kind}
 use Rattle.dict_schema.specs.declared.definition.Lifetime.{Lifetime}
-use Rattle.dict_schema.specs.declared.definition.RangeOf.{RangeOf}
 use Rattle.ddl_tokens.specs.declared.token.TokenKind.{TokenKind}
 use Rattle.ddl_tokens.specs.declared.fault.SyntaxFault.TheVariants.{Unexpected, UnknownSetting, Unsupported}
 use Rattle.ddl_tokens.specs.Tokens.{Token}

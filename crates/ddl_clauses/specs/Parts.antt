@@ -3,7 +3,6 @@ use Rattle.std.specs.Prelude.{ℕ, ◌==◌, min, Bool, true, false, List, [], �
 use Rattle.dict_value.specs.declared.value.Format.{Format}
 use Rattle.dict_value.specs.declared.value.Format.TheVariants.{Tab}
 use Rattle.dict_schema.specs.declared.definition.CacheSet.{CacheSet}
-use Rattle.dict_schema.specs.declared.definition.Kind.{Kind}
 use Rattle.dict_schema.specs.declared.definition.Kind.TheVariants.{Executable}
 use Rattle.dict_schema.specs.declared.definition.Layout.{Layout}
 use Rattle.dict_schema.specs.declared.definition.Layout.TheVariants as layout

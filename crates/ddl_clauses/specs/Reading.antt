@@ -1,6 +1,5 @@
 -- The clauses, as they are read.
-use Rattle.std.specs.Prelude.{ℕ, Bool, true, false, List, [], ◌∷◌, codes, map, Option, Some, None, Ok, Err, if◌then◌else◌}
-use Rattle.dict_schema.specs.declared.definition.Kind.{Kind}
+use Rattle.std.specs.Prelude.{ℕ, List, [], codes, Option, Some, None, Ok, if◌then◌else◌}
 use Rattle.dict_schema.specs.declared.definition.Lifetime.{Lifetime}
 use Rattle.ddl_tokens.specs.declared.fault.SyntaxFault.TheVariants.{Unexpected, UnknownSetting, Unsupported}
 use Rattle.ddl_tokens.specs.Tokens.{Token}
@@ -14,7 +13,6 @@ use Rattle.ddl_clauses.specs.declared.clause.ClauseKind.TheVariants as kind
 use Rattle.ddl_clauses.specs.declared.clause.RangeNames.{RangeNames}
 use Rattle.ddl_clauses.specs.declared.clause.WrittenLayout.{WrittenLayout}
 use Rattle.ddl_clauses.specs.declared.clause.WrittenSource.{WrittenSource}
-use Rattle.ddl_clauses.specs.declared.layouts.LayoutName.{LayoutName}
 use Rattle.ddl_clauses.specs.declared.parts.DictionaryParts.{DictionaryParts}
 use Rattle.ddl_clauses.specs.declared.parts.FunctionParts.{FunctionParts}
 use Rattle.ddl_clauses.specs.declared.settings.Owner.{Owner}
