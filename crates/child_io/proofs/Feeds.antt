@@ -4,7 +4,7 @@ use Rattle.std.proofs.Math.Seq.{take-add, take-length}
 use Rattle.std.proofs.lemmas.List.{length-take}
 use Rattle.std.proofs.lemmas.Grind.{common_steps}
 use Rattle.std.proofs.lemmas.Bool.Decides.{nat_tests}
-use Rattle.child_io.specs.Told.{Told, fresh, has_number, put_size, after_put, PutTold}
+use Rattle.child_io.specs.Told.{Told, fresh, holds_number, put_size, after_put, PutTold}
 use Rattle.child_io.specs.Outcomes.{input_fails}
 use Rattle.child_io.specs.steps.Fed.{FedAs}
 use Rattle.dict_io.specs.declared.outside.Put.TheVariants.{Bytes as PutBytes, Failed as PutFailed}
@@ -19,7 +19,7 @@ pub record Feeding (s : Script) (input : List ℕ) (done : ℕ) (told : Option T
   pub taken : now.taken ≡ 0
   pub reads : now.reads ≡ 0
   pub first : done ≡ 0 → now.writes ≡ 0
-  pub later : 0 < done → (has_number s.failing_writes 0 ≡ false) × (done ≡ min (length input) s.room)
+  pub later : 0 < done → (holds_number s.failing_writes 0 ≡ false) × (done ≡ min (length input) s.room)
 
 -- what the answer says of the size
 pub puts-bytes : (b : Bool) (size n : ℕ) → PutBytes n ≡ (if b then PutFailed else PutBytes size) → (b ≡ false) × (n ≡ size)
@@ -62,7 +62,7 @@ fails-not b room size e h = rw e (grind (arith, nat_tests))
 
 -- the size, by its parts
 abbrev pub sized : List ℕ → ℕ → ℕ → ℕ → ℕ → ℕ
-sized failing room writes used size = if has_number failing writes then 0 else min size (room - used)
+sized failing room writes used size = if holds_number failing writes then 0 else min size (room - used)
 
 pub sized-first : {told : Option Told} (s : Script) (input : List ℕ) (f : Feeding s input 0 told) → put_size f.now (length input - 0) ≡ sized s.failing_writes s.room 0 0 (length input)
 sized-first s input f =
@@ -75,23 +75,23 @@ sized-first s input f =
 pub sized-later : {told : Option Told} (s : Script) (input : List ℕ) (done : ℕ) (f : Feeding s input done told) → 0 < done → done < length input → put_size f.now (length input - done) ≡ 0
 sized-later s input done f some less =
     let full : s.room ≤ length f.now.written = omega (arith, (f.later some).1, ap length f.written, length-take {A = ℕ} done input) in
-    size-later (has_number f.now.script.failing_writes f.now.writes) (length input - done) f.now.script.room (length f.now.written) (rw f.script full)
+    size-later (holds_number f.now.script.failing_writes f.now.writes) (length input - done) f.now.script.room (length f.now.written) (rw f.script full)
 
 -- the first write takes what there is room for, and a later one nothing
-pub feed-size : {told : Option Told} (s : Script) (input : List ℕ) (done n : ℕ) (f : Feeding s input done told) → done < length input → 0 < put_size f.now (length input - done) → n ≡ put_size f.now (length input - done) → (has_number s.failing_writes 0 ≡ false) × (done + n ≡ min (length input) s.room)
+pub feed-size : {told : Option Told} (s : Script) (input : List ℕ) (done n : ℕ) (f : Feeding s input done told) → done < length input → 0 < put_size f.now (length input - done) → n ≡ put_size f.now (length input - done) → (holds_number s.failing_writes 0 ≡ false) × (done + n ≡ min (length input) s.room)
 feed-size s input zero n f less some e =
     let size = sized-first s input f in
-    let p = size-first (has_number s.failing_writes 0) (length input) s.room (rw size at some) in
+    let p = size-first (holds_number s.failing_writes 0) (length input) s.room (rw size at some) in
     (p.0, omega (arith, e, size, p.1))
 feed-size s input (suc m) n f less some e = absurd (omega (arith, sized-later s input (suc m) f (omega arith) less))
 
 pub feed-none : {told : Option Told} (s : Script) (input : List ℕ) (done : ℕ) (f : Feeding s input done told) → done < length input → put_size f.now (length input - done) ≡ 0 → input_fails s input ≡ true
-feed-none s input zero f less e = fails-of (has_number s.failing_writes 0) s.room (length input) less (size-none (has_number s.failing_writes 0) (length input) s.room less (rw (sized-first s input f) at e))
-feed-none s input (suc m) f less e = fails-room (has_number s.failing_writes 0) s.room (length input) (omega (arith, (f.later (omega arith)).1))
+feed-none s input zero f less e = fails-of (holds_number s.failing_writes 0) s.room (length input) less (size-none (holds_number s.failing_writes 0) (length input) s.room less (rw (sized-first s input f) at e))
+feed-none s input (suc m) f less e = fails-room (holds_number s.failing_writes 0) s.room (length input) (omega (arith, (f.later (omega arith)).1))
 
-pub feed-not : (s : Script) (input : List ℕ) (done : ℕ) → done ≡ length input → (0 < done → (has_number s.failing_writes 0 ≡ false) × (done ≡ min (length input) s.room)) → input_fails s input ≡ false
+pub feed-not : (s : Script) (input : List ℕ) (done : ℕ) → done ≡ length input → (0 < done → (holds_number s.failing_writes 0 ≡ false) × (done ≡ min (length input) s.room)) → input_fails s input ≡ false
 feed-not s input zero e later = rw (← e) refl
-feed-not s input (suc m) e later = let l = later (omega arith) in fails-not (has_number s.failing_writes 0) s.room (length input) l.0 (omega (arith, l.1))
+feed-not s input (suc m) e later = let l = later (omega arith) in fails-not (holds_number s.failing_writes 0) s.room (length input) l.0 (omega (arith, l.1))
 
 -- one write
 pub feed-next : (s : Script) (input : List ℕ) (done n : ℕ) (told new : Option Told) → done < length input → Feeding s input done told → PutTold told new (PutBytes n) (drop done input) → Feeding s input (done + n) new

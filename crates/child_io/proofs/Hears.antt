@@ -9,7 +9,7 @@ use Rattle.std.specs.List.{All, concat}
 use Rattle.dict_io.specs.Memory.{size_at}
 use Rattle.dict_io.specs.Outside.{count_up}
 use Rattle.child_io.specs.Told.{Told, read_fails, read_times_out, read_size, heard_of, after_heard, HeardAs, HeardTold, WaitTold}
-use Rattle.child_io.specs.Outcomes.{taken_by, piece_of, pieces_by, is_read, is_last, end_at, IsHeard}
+use Rattle.child_io.specs.Outcomes.{taken_by, piece_of, pieces_by, is_read, is_last_read, end_at, IsHeard}
 use Rattle.child_io.specs.steps.Heard.{HearsPieces, HearTold}
 use Rattle.child_io.specs.declared.run.TheConstants.{READ_ROOM}
 use Rattle.dict_io.specs.declared.outside.Failed.{Failed}
@@ -26,7 +26,7 @@ pub record Hearing (limit : ℕ) (t : Told) (pieces : List (List ℕ)) : Type 0 
   pub taken : t.taken ≡ taken_by t.script t.reads
   pub within : t.taken ≤ length t.script.output
   pub same : pieces ≡ pieces_by t.script t.reads
-  pub earlier : (j : ℕ) → j < t.reads → is_last t.script t.written limit j ≡ false
+  pub earlier : (j : ℕ) → j < t.reads → is_last_read t.script t.written limit j ≡ false
   pub few : t.reads ≤ t.taken
 
 -- the same, of a child that began as t0
@@ -137,22 +137,22 @@ module _ (s : Script) (input : List ℕ) (limit k : ℕ) where
   abbrev long : Bool
   long = nat_lt limit (taken_by s (suc k))
 
-  pub last-not : failed ≡ false → late ≡ false → end ≡ false → long ≡ false → is_last s input limit k ≡ false
+  pub last-not : failed ≡ false → late ≡ false → end ≡ false → long ≡ false → is_last_read s input limit k ≡ false
   last-not = ends-not failed late end long
 
-  pub last-failed : failed ≡ true → (is_last s input limit k ≡ true) × (Cut false ≡ end_at s input k)
+  pub last-failed : failed ≡ true → (is_last_read s input limit k ≡ true) × (Cut false ≡ end_at s input k)
   last-failed a = (ends-failed failed late end long a, choose-failed failed late end s.wait_fails s.exit a)
 
-  pub last-timed_out : failed ≡ false → late ≡ true → (is_last s input limit k ≡ true) × (Cut true ≡ end_at s input k)
+  pub last-timed_out : failed ≡ false → late ≡ true → (is_last_read s input limit k ≡ true) × (Cut true ≡ end_at s input k)
   last-timed_out a b = (ends-timed_out failed late end long a b, choose-timed_out failed late end s.wait_fails s.exit a b)
 
-  pub last-ended : failed ≡ false → late ≡ false → end ≡ true → s.wait_fails ≡ false → (is_last s input limit k ≡ true) × (Ended s.exit ≡ end_at s input k)
+  pub last-ended : failed ≡ false → late ≡ false → end ≡ true → s.wait_fails ≡ false → (is_last_read s input limit k ≡ true) × (Ended s.exit ≡ end_at s input k)
   last-ended a b c d = (ends-end failed late end long a b c, choose-ended failed late end s.wait_fails s.exit a b c d)
 
-  pub last-wait : failed ≡ false → late ≡ false → end ≡ true → s.wait_fails ≡ true → (is_last s input limit k ≡ true) × (WaitFailed ≡ end_at s input k)
+  pub last-wait : failed ≡ false → late ≡ false → end ≡ true → s.wait_fails ≡ true → (is_last_read s input limit k ≡ true) × (WaitFailed ≡ end_at s input k)
   last-wait a b c d = (ends-end failed late end long a b c, choose-wait failed late end s.wait_fails s.exit a b c d)
 
-  pub last-long : failed ≡ false → late ≡ false → end ≡ false → long ≡ true → (is_last s input limit k ≡ true) × (TooLong ≡ end_at s input k)
+  pub last-long : failed ≡ false → late ≡ false → end ≡ false → long ≡ true → (is_last_read s input limit k ≡ true) × (TooLong ≡ end_at s input k)
   last-long a b c d = (ends-long failed late end long a b c d, choose-long failed late end s.wait_fails s.exit a b c)
 
 -- a size is at least 1
@@ -181,13 +181,13 @@ hears-next limit t pieces buf n new small room h a le fits =
     let some : 0 < n = some-read n (read_size t.script t.taken t.reads (length buf)) p.3 p.2 in
     let up : count_up t.reads ≡ suc t.reads = count_up-few t.reads (omega (arith, h.few)) in
     let next : t.taken + n ≡ taken_by t.script (suc t.reads) = ap (λ z. t.taken + z) size ∙ ap (λ z. z + read_size t.script z t.reads READ_ROOM) h.taken in
-    let here : is_last t.script t.written limit t.reads ≡ false = last-not t.script t.written limit t.reads p.0 p.1 (rw (← h.taken) (more-left t.script t.taken t.reads (length buf) p.2 h.within)) (rw (← next) (grind (arith, nat_tests))) in
+    let here : is_last_read t.script t.written limit t.reads ≡ false = last-not t.script t.written limit t.reads p.0 p.1 (rw (← h.taken) (more-left t.script t.taken t.reads (length buf) p.2 h.within)) (rw (← next) (grind (arith, nat_tests))) in
     let piece : take n buf ≡ piece_of t.script t.reads = a.bytes ∙ ap (λ m. take m (drop t.taken t.script.output)) size ∙ ap (λ z. take (read_size t.script z t.reads READ_ROOM) (drop z t.script.output)) h.taken in
     record {
       taken = next ∙ ap (taken_by t.script) (sym up);
       within = omega (arith, h.within);
       same = ap (λ z. z ++ take n buf ∷ []) h.same ∙ ap (λ z. pieces_by t.script t.reads ++ z ∷ []) piece ∙ ap (pieces_by t.script) (sym up);
-      earlier = λ j less. below_more (λ j. is_last t.script t.written limit j ≡ false) t.reads h.earlier here j (omega (arith, up));
+      earlier = λ j less. below_more (λ j. is_last_read t.script t.written limit j ≡ false) t.reads h.earlier here j (omega (arith, up));
       few = omega (arith, h.few, up, some);
     }
 
@@ -195,7 +195,7 @@ hears-next limit t pieces buf n new small room h a le fits =
 pub answer-of : (t : Told) (new : Option Told) (r : Heard) (buf : List ℕ) → length buf ≡ READ_ROOM → HeardAs t true new r buf → r ≡ pick (read_fails t.script t.written t.reads) (read_times_out t.script true t.reads) (read_size t.script t.taken t.reads READ_ROOM == 0) (read_size t.script t.taken t.reads READ_ROOM)
 answer-of t new r buf room a = a.answer ∙ ap (heard_of t true) room
 
-pub exit-of : (limit : ℕ) (t0 : Told) (told : Option Told) (pieces : List (List ℕ)) (end : PieceEnd) (h : HearsSince limit t0 told pieces) → is_last h.now.script h.now.written limit h.now.reads ≡ true → end ≡ end_at h.now.script h.now.written h.now.reads → IsHeard t0.script t0.written limit pieces end
+pub exit-of : (limit : ℕ) (t0 : Told) (told : Option Told) (pieces : List (List ℕ)) (end : PieceEnd) (h : HearsSince limit t0 told pieces) → is_last_read h.now.script h.now.written limit h.now.reads ≡ true → end ≡ end_at h.now.script h.now.written h.now.reads → IsHeard t0.script t0.written limit pieces end
 exit-of limit t0 told pieces end h last at =
     subst (λ s. IsHeard s t0.written limit pieces end) h.script (subst (λ w. IsHeard h.now.script w limit pieces end) h.written (h.now.reads, (h.hearing.earlier, last), h.hearing.same, at))
 

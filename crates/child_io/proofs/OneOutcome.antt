@@ -2,7 +2,7 @@
 use Rattle.std.proofs.Common.{◌≡◌, ◌<◌, ◌≤◌, ℕ, zero, suc, ◌+◌, List, [], length, Bool, true, false, ◌||◌, ◌==◌, nat_lt, ◌⊎◌, inl, inr, refl, ap, sym, ◌∙◌, arith, lit<}
 use Rattle.std.proofs.lemmas.Bool.Decides.{nat_tests}
 use Rattle.child_io.specs.Told.{read_fails, read_times_out, read_size}
-use Rattle.child_io.specs.Outcomes.{taken_by, pieces_by, input_fails, is_read, is_last, EndsAt, end_at, IsHeard, IsOutcome}
+use Rattle.child_io.specs.Outcomes.{taken_by, pieces_by, input_fails, is_read, is_last_read, EndsAt, end_at, IsHeard, IsOutcome}
 use Rattle.child_io.specs.declared.run.TheConstants.{READ_ROOM}
 use Rattle.child_io.specs.declared.child.Script.{Script}
 use Rattle.child_io.specs.declared.pieces.PieceEnd.{PieceEnd}
@@ -37,7 +37,7 @@ brings s taken k within more =
     (grind (arith, nat_tests, some), omega (arith, within))
 
 -- so each of them takes the reads further
-goes-on : (s : Script) (input : List ℕ) (limit k : ℕ) → ((j : ℕ) → j < k → is_last s input limit j ≡ false) → (k ≤ taken_by s k) × (taken_by s k ≤ length s.output)
+goes-on : (s : Script) (input : List ℕ) (limit k : ℕ) → ((j : ℕ) → j < k → is_last_read s input limit j ≡ false) → (k ≤ taken_by s k) × (taken_by s k ≤ length s.output)
 goes-on s input limit zero none = (omega arith, omega arith)
 goes-on s input limit (suc k) none =
     let before = goes-on s input limit k (λ j less. none j (omega (arith, less))) in
@@ -45,12 +45,12 @@ goes-on s input limit (suc k) none =
     let b = brings s (taken_by s k) k before.1 more in
     (omega (arith, before, b), b.1)
 
-some-end : (s : Script) (input : List ℕ) (limit : ℕ) → ((k : ℕ) × EndsAt s input limit k) ⊎ ((j : ℕ) → j < suc (length s.output) → is_last s input limit j ≡ false) → (k : ℕ) × EndsAt s input limit k
+some-end : (s : Script) (input : List ℕ) (limit : ℕ) → ((k : ℕ) × EndsAt s input limit k) ⊎ ((j : ℕ) → j < suc (length s.output) → is_last_read s input limit j ≡ false) → (k : ℕ) × EndsAt s input limit k
 some-end s input limit (inl first) = first
 some-end s input limit (inr none) = absurd (omega (arith, goes-on s input limit (suc (length s.output)) none))
 
 ends : (s : Script) (input : List ℕ) (limit : ℕ) → (k : ℕ) × EndsAt s input limit k
-ends s input limit = some-end s input limit (first-below (is_last s input limit) (suc (length s.output)))
+ends s input limit = some-end s input limit (first-below (is_last_read s input limit) (suc (length s.output)))
 
 exists : (s : Script) (input : List ℕ) (limit : ℕ) (start write : Bool) → s.start_fails ≡ start → input_fails s input ≡ write → (pieces : List (List ℕ)) × ((end : PieceEnd) × IsOutcome s input limit pieces end)
 exists s input limit true write e f = ([], (NotStarted, ((λ _. (refl, refl)), λ starts. let a = sym starts ∙ e in cc)))
@@ -70,7 +70,7 @@ one-read test k j false false e f first other = grind (arith, nat_tests, e, f)
 
 one-heard : (s : Script) (input : List ℕ) (limit : ℕ) (pieces others : List (List ℕ)) (end other : PieceEnd) → IsHeard s input limit pieces end → IsHeard s input limit others other → (pieces ≡ others) × (end ≡ other)
 one-heard s input limit pieces others end other h i =
-    let same = one-read (is_last s input limit) h.0 i.0 (nat_lt h.0 i.0) (nat_lt i.0 h.0) refl refl h.1 i.1 in
+    let same = one-read (is_last_read s input limit) h.0 i.0 (nat_lt h.0 i.0) (nat_lt i.0 h.0) refl refl h.1 i.1 in
     (h.2 ∙ ap (pieces_by s) same ∙ sym i.2, h.3 ∙ ap (end_at s input) same ∙ sym i.3)
 
 one-by : (s : Script) (input : List ℕ) (limit : ℕ) (pieces others : List (List ℕ)) (end other : PieceEnd) (start write : Bool) → s.start_fails ≡ start → input_fails s input ≡ write → IsOutcome s input limit pieces end → IsOutcome s input limit others other

@@ -10,7 +10,7 @@ use Rattle.dict_value.specs.Memory.{UnlessNoMemory}
 use Rattle.dict_io.specs.Outside.{HasCause}
 use Rattle.dict_io.specs.declared.outside.Failed.{Failed}
 use Rattle.child_io.specs.Told.{Told, fresh, IsFresh, RanAs, StartTold, read_fails, read_times_out}
-use Rattle.child_io.specs.Gathers.{gathered_outcome, Gathers, IsWhole, outcome_of}
+use Rattle.child_io.specs.Gathers.{gathered_outcome, Gathers, HasWholeOutput, outcome_of}
 use Rattle.child_io.specs.Outcomes.{is_read, taken_by, input_fails, IsHeard, IsChildOutcome}
 use Rattle.child_io.specs.Runs.{HandsOn, RanToEnd, RunTold}
 use Rattle.child_io.specs.steps.Fed.{FeedTold}
@@ -130,7 +130,7 @@ whole-starts : (g : Gathered) (end : PieceEnd) (lost : Bool) → lost ≡ false 
 whole-starts g end lost l e = rw (l, e) refl
 
 -- a run whose pieces were gathered
-pub whole-run : (g : Gathered) (end : PieceEnd) (limit : ℕ) (by_script by_child in_full : List (List ℕ) → Type 0) → (end ≡ NotStarted → g.lost ≡ false) → HandsOn (Gathers g) limit by_script by_child in_full → HandsOn (IsWhole (gathered_outcome g end) end) limit by_script by_child in_full
+pub whole-run : (g : Gathered) (end : PieceEnd) (limit : ℕ) (by_script by_child in_full : List (List ℕ) → Type 0) → (end ≡ NotStarted → g.lost ≡ false) → HandsOn (Gathers g) limit by_script by_child in_full → HandsOn (HasWholeOutput (gathered_outcome g end) end) limit by_script by_child in_full
 whole-run g end limit by_script by_child in_full l h = record {
   pieces = h.pieces;
   handed = ((λ e. whole-starts g end g.lost (l e) e), whole-of g end g.lost h.pieces h.handed.1);

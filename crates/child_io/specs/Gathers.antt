@@ -27,7 +27,7 @@ abbrev pub gathered_outcome : Gathered → PieceEnd → Outcome
 gathered_outcome g end = if g.lost then NoMemory else outcome_of end g.bytes
 
 -- the outcome has all bytes of the pieces; a child that isn't started takes no memory
-abbrev pub IsWhole : Outcome → PieceEnd → List (List ℕ) → Type 0
-IsWhole outcome end pieces =
+abbrev pub HasWholeOutput : Outcome → PieceEnd → List (List ℕ) → Type 0
+HasWholeOutput outcome end pieces =
     (end ≡ ending.NotStarted → outcome ≡ NotStarted)
     × UnlessNoMemory NoMemory outcome (outcome ≡ outcome_of end (concat pieces))

@@ -1,7 +1,7 @@
 -- How a child ends that gets an input and is then read to its end, by its script.
 use Rattle.std.specs.Prelude.{◌≡◌, ◌<◌, ℕ, zero, suc, ◌+◌, List, [], ◌∷◌, ◌++◌, length, take, drop}
 use Rattle.std.specs.Prelude.{Bool, true, false, ◌||◌, ◌&&◌, ◌==◌, nat_lt, if◌then◌else◌}
-use Rattle.child_io.specs.Told.{has_number, read_fails, read_times_out, read_size}
+use Rattle.child_io.specs.Told.{holds_number, read_fails, read_times_out, read_size}
 use Rattle.child_io.specs.declared.child.Script.{Script}
 use Rattle.child_io.specs.declared.pieces.PieceEnd.{PieceEnd}
 use Rattle.child_io.specs.declared.pieces.PieceEnd.TheVariants.{NotStarted, WriteFailed, Cut, TooLong}
@@ -24,20 +24,21 @@ pieces_by s (suc k) = pieces_by s k ++ piece_of s k ∷ []
 
 -- not the whole input goes into the child
 abbrev pub input_fails : Script → List ℕ → Bool
-input_fails s input = nat_lt 0 (length input) && (has_number s.failing_writes 0 || nat_lt s.room (length input))
+input_fails s input = nat_lt 0 (length input) && (holds_number s.failing_writes 0 || nat_lt s.room (length input))
 
 -- all of the output came by the first k reads
 abbrev pub is_read : Script → ℕ → Bool
 is_read s k = taken_by s k == length s.output
 
 -- the read of that number is the last one: it fails, times out, finds the end, or goes past the limit
-abbrev pub is_last : Script → List ℕ → ℕ → ℕ → Bool
-is_last s input limit k =
+abbrev pub is_last_read : Script → List ℕ → ℕ → ℕ → Bool
+is_last_read s input limit k =
     read_fails s input k || (read_times_out s true k || (is_read s k || nat_lt limit (taken_by s (suc k))))
 
 -- it is the first such read
 abbrev pub EndsAt : Script → List ℕ → ℕ → ℕ → Type 0
-EndsAt s input limit k = ((j : ℕ) → j < k → is_last s input limit j ≡ false) × (is_last s input limit k ≡ true)
+EndsAt s input limit k =
+    ((j : ℕ) → j < k → is_last_read s input limit j ≡ false) × (is_last_read s input limit k ≡ true)
 
 -- how the child ends, where that read is the last one
 abbrev pub end_at : Script → List ℕ → ℕ → PieceEnd

@@ -37,8 +37,8 @@ abbrev pub IsFresh : Option Told → Type 0
 IsFresh told = IfSome told (λ t. t ≡ fresh t.script)
 
 -- the number stands in the list
-abbrev pub has_number : List ℕ → ℕ → Bool
-has_number xs n = list_any (λ y. y == n) xs
+abbrev pub holds_number : List ℕ → ℕ → Bool
+holds_number xs n = list_any (λ y. y == n) xs
 
 -- the input is one of those, or there are none
 abbrev pub is_accepted : List (List ℕ) → List ℕ → Bool
@@ -46,7 +46,8 @@ is_accepted accepted written = (length accepted == 0) || list_any (λ y. bytes_e
 
 -- how many bytes of a piece the next write takes, and 0 where it fails
 abbrev pub put_size : Told → ℕ → ℕ
-put_size t size = if has_number t.script.failing_writes t.writes then 0 else min size (t.script.room - length t.written)
+put_size t size =
+    if holds_number t.script.failing_writes t.writes then 0 else min size (t.script.room - length t.written)
 
 -- the answer of the next write
 abbrev pub put_of : Told → ℕ → Put
@@ -62,11 +63,11 @@ PutTold (Some t) new r piece = (r ≡ put_of t (length piece)) × (new ≡ Some 
 
 -- the read of that number fails
 abbrev pub read_fails : Script → List ℕ → ℕ → Bool
-read_fails s written k = has_number s.failing_reads k || not (is_accepted s.accepted written)
+read_fails s written k = holds_number s.failing_reads k || not (is_accepted s.accepted written)
 
 -- the read of that number times out, also where the output comes only behind the closed input
 abbrev pub read_times_out : Script → Bool → ℕ → Bool
-read_times_out s closed k = (not closed && s.after_close) || has_number s.timed_out_reads k
+read_times_out s closed k = (not closed && s.after_close) || holds_number s.timed_out_reads k
 
 -- how many bytes the read of that number brings into so much room, after so many
 abbrev pub read_size : Script → ℕ → ℕ → ℕ → ℕ

@@ -1,7 +1,7 @@
 // One child, from its start to its end.
 ghost use Rattle.std.specs.Prelude.{◌≡◌, ◌≢◌, ◌<◌, ◌≤◌, ℕ, List, [], length, false, IsErr, IsTrue};
 ghost use Rattle.dict_io.specs.Outside.{HasCause};
-ghost use Rattle.child_io.specs.Gathers.{IsWhole};
+ghost use Rattle.child_io.specs.Gathers.{HasWholeOutput};
 ghost use Rattle.child_io.specs.Runs.{EndBroke, EndFails, HandsOn, order_of, RanChild, RanToEnd, RunTold};
 ghost use Rattle.child_io.specs.declared.child.How.{How};
 ghost use Rattle.child_io.specs.declared.pieces.PieceEnd.{PieceEnd as EndOf};
@@ -123,7 +123,7 @@ pub fn run_whole<S: Spawner>(
     read_ms: u32,
 ) -> Outcome
     ensures run { let order = order_of words.now input.now limit read_ms in
-        (end : EndOf) × EndBroke S.C.broke end × HandsOn (IsWhole result end) limit
+        (end : EndOf) × EndBroke S.C.broke end × HandsOn (HasWholeOutput result end) limit
         (RunTold (S.scripts spawner.old) (S.scripts spawner.new) input.now limit end)
         (RanChild S.started S.C.told S.C.history S.C.faults order spawner.old spawner.new end)
         (RanToEnd S.ran words.now end) }

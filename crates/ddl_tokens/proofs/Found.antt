@@ -7,7 +7,7 @@ use Rattle.std.proofs.lemmas.List.{append-nil, take_at, drop_at}
 use Rattle.ddl_tokens.specs.declared.token.TokenKind.{TokenKind}
 use Rattle.ddl_tokens.specs.declared.token.TokenKind.TheVariants.{Word, QuotedWord, Number, String, Sign, Broken, End}
 use Rattle.ddl_tokens.specs.Letters.{is_space, is_digit, is_word_start, is_word_byte, is_sign, is_number_sign, quoted_kind, is_quote, begins_with}
-use Rattle.ddl_tokens.specs.Tokens.{Token, IsGap, IsLastGap, IsToken, word, whole, fraction, sign as one_sign, quoted, IsBroken, strange, open_comment, open_quote, bad_escape, can_begin, TokensFrom, ends, breaks, next, IsNumberSign, IsDigits}
+use Rattle.ddl_tokens.specs.Tokens.{Token, IsGap, IsLastGap, IsToken, word, whole, fraction, sign as one_sign, quoted, IsBroken, strange, open_comment, open_quote, bad_escape, can_begin, TokensFrom, ends, breaks, next, IsNumberSign, AreDigits}
 use Rattle.ddl_tokens.specs.steps.Lexer.{after_gap, between, plain, bytes_in, Ending, closed, bad, open_ended, ending, number_len, token, front, in_quotes, unquoted, quoted_or_not, token_at, behind_gap, next_token, is_last, tokens_by, tokens, ahead}
 use Rattle.ddl_tokens.proofs.Skipped.{begins_gap, gap_again, stays, open_comment_stays, last_gap_left, leaves, Leaves}
 use Rattle.ddl_tokens.proofs.InQuotes.{apart, tells, Tells, end_from_closes, closes_from_end, open_from_none, bad_from_escape, closed_from_stands, bytes_from_stands, never}
@@ -154,7 +154,7 @@ number_start b (inr e) = elim (or_cases (b == 43) (b == 45) e) [
 ]
 
 -- the first byte of a sign and digits
-number_head : (own sign digits tail : List ℕ) → own ≡ sign ++ (digits ++ tail) → IsNumberSign sign → IsDigits digits
+number_head : (own sign digits tail : List ℕ) → own ≡ sign ++ (digits ++ tail) → IsNumberSign sign → AreDigits digits
     → (b : ℕ) × (rest : List ℕ) × (own ≡ b ∷ rest) × ((is_digit b ≡ true) ⊎ (is_number_sign b ≡ true)) × ((more : List ℕ) → begins_gap (b ∷ (rest ++ more)) ≡ false)
 number_head own sign [] tail p s d = absurd (d.0 refl)
 number_head own sign (x ∷ digits) tail p (inl s) d = (x, digits ++ tail, p ∙ ap (λ t. t ++ ((x ∷ digits) ++ tail)) s, inl d.1.0, λ more. digit_no_gap x ((digits ++ tail) ++ more) d.1.0)
@@ -176,7 +176,7 @@ pub record Reads (size : ℕ) (kind : TokenKind) (bytes own rest : List ℕ) : T
   pub reads : token_at size (own ++ rest) ≡ (token (size - length (own ++ rest)) kind bytes, rest)
   pub goes_on : is_last kind ≡ false
 
-reads_number : (size : ℕ) (own rest sign digits tail : List ℕ) → own ≡ sign ++ (digits ++ tail) → IsNumberSign sign → IsDigits digits → number_len (own ++ rest) ≡ length own → Reads size Number own own rest
+reads_number : (size : ℕ) (own rest sign digits tail : List ℕ) → own ≡ sign ++ (digits ++ tail) → IsNumberSign sign → AreDigits digits → number_len (own ++ rest) ≡ length own → Reads size Number own own rest
 reads_number size own rest sign digits tail p s d e =
     let h = number_head own sign digits tail p s d in
     let k = number_start h.0 h.3 in

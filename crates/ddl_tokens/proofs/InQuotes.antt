@@ -5,7 +5,8 @@ use Rattle.std.proofs.lemmas.Bool.{eqb-true, eqb-false, ne_eqb, eq-eqb, cond-tru
 use Rattle.std.proofs.lemmas.List.{append-nil}
 use Rattle.ddl_tokens.specs.declared.token.TokenKind.{TokenKind}
 use Rattle.ddl_tokens.specs.Letters.{is_quote, begins_with}
-use Rattle.ddl_tokens.specs.Quoted.{hex_digit, begins_with_digits, unescaped, StandsFor, nothing, itself, doubled, escaped as by_slash, hexadecimal, IsInside, empty, plain as plain_byte, pair, taken, HasEnd, LacksDigits}
+use Rattle.dict_value.specs.Escapes.{hex_digit, begins_with_digits, unescaped}
+use Rattle.ddl_tokens.specs.Quoted.{StandsFor, nothing, itself, doubled, escaped as by_slash, hexadecimal, IsInside, empty, plain as plain_byte, pair, taken, HasEnd, LacksDigits}
 use Rattle.ddl_tokens.specs.steps.Lexer.{plain, ended, escaped, hex_value, bytes_in, closes, Ending, closed, bad, open_ended, spoiled, ending}
 
 -- ---- hexadecimal digits are no quote signs

@@ -5,6 +5,7 @@ use Rattle.ddl_tokens.specs.declared.fault.SyntaxFault.{SyntaxFault}
 use Rattle.ddl_tokens.specs.declared.fault.SyntaxFault.TheVariants.{Unexpected}
 use Rattle.ddl_tokens.specs.Tokens.{Token}
 use Rattle.ddl_tokens.specs.Reading.{Gives, is_word, is_signed, ◌>>=◌, Read, passes, is_keyword, is_the_sign, keyword_at, sign_at, bytes_at, bytes_ahead}
+pub use Rattle.ddl_tokens.specs.Laws.{passes_first}
 use Rattle.ddl_tokens.specs.Laws.{Starts, IfSyntax, first, place_of, Anyhow, Begins, IsLeast, Faults, Lawful, IsOne, judged, IsKeyword, IsSign, IsBytes, IsNothing, Then, Either, Made, Optional, OptionalStops}
 use Rattle.std.specs.Prelude.{◌==◌, IfOk}
 use Rattle.dict_value.specs.Memory.{UnlessNoMemory}
@@ -314,10 +315,6 @@ made {A = A} {B = B} {read = read} {Own = Own} make Ends into out F = record {
 }
 
 -- ---- one or the other, by the token in hand
-
-abbrev pub passes_first : (Token → Bool) → Option Token → Bool
-passes_first test None = false
-passes_first test (Some t) = test t
 
 pub passes-first : (test : Token → Bool) (ts : List Token) → passes test ts ≡ passes_first test (first ts)
 unfolding passes

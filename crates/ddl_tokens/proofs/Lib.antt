@@ -2,9 +2,10 @@ mod Skipped
 mod InQuotes
 mod Numerals
 mod Found
-mod Going
+pub mod Going
 pub mod Laws
 pub mod Repeats
 pub mod Lists
 pub mod Once
 pub mod Loops
+pub mod Judged

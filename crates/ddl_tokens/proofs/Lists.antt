@@ -11,11 +11,11 @@ use Rattle.ddl_tokens.proofs.Laws.{bind_ok, bind_err, ok_is, said, knowing, then
 use Rattle.ddl_tokens.proofs.Repeats.{Goes, Stopped, StepFaults, Steps, repeats, starts}
 
 -- the sign is the token in hand
-sign_taken : (sign : ℕ) (t : Token) (ts : List Token) → is_the_sign sign t ≡ true → sign_at sign (t ∷ ts) ≡ Ok (tt, ts)
+pub sign_taken : (sign : ℕ) (t : Token) (ts : List Token) → is_the_sign sign t ≡ true → sign_at sign (t ∷ ts) ≡ Ok (tt, ts)
 unfolding sign_at passes
 sign_taken sign t ts e = cond-true (is_the_sign sign t) _ _ e
 
-last_is : {A : Type 0} (Stops : A → Option Token → Type 0) (before : List A) (a : A) (o : Option Token) → LastStops Stops (before ++ a ∷ []) o ≡ Stops a o
+pub last_is : {A : Type 0} (Stops : A → Option Token → Type 0) (before : List A) (a : A) (o : Option Token) → LastStops Stops (before ++ a ∷ []) o ≡ Stops a o
 last_is Stops [] a o = refl
 last_is Stops (b ∷ []) a o = refl
 last_is Stops (b ∷ c ∷ before) a o = last_is Stops (c ∷ before) a o

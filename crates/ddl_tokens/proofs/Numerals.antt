@@ -6,7 +6,7 @@ use Rattle.std.proofs.lemmas.Bool.{eqb-true, ne_eqb, cond-true, cond-false, case
 use Rattle.std.proofs.lemmas.List.{drop_at}
 use Rattle.ddl_tokens.specs.declared.token.TokenKind.TheVariants.{Number}
 use Rattle.ddl_tokens.specs.Letters.{is_digit, is_number_sign, begins_with}
-use Rattle.ddl_tokens.specs.Tokens.{IsDigits, IsNumberSign, begins_with_fraction, IsToken, whole, fraction}
+use Rattle.ddl_tokens.specs.Tokens.{AreDigits, IsNumberSign, begins_with_fraction, IsToken, whole, fraction}
 use Rattle.ddl_tokens.specs.steps.Lexer.{fraction_len, digits_len, number_len}
 
 -- ---- runs
@@ -51,7 +51,7 @@ empty_or_not (b ∷ text) = inr (λ e. cc)
 
 -- ---- a point and digits
 
-pub fraction_is : (places rest : List ℕ) → IsDigits places → begins_with is_digit rest ≡ false → fraction_len (46 ∷ (places ++ rest)) ≡ suc (length places)
+pub fraction_is : (places rest : List ℕ) → AreDigits places → begins_with is_digit rest ≡ false → fraction_len (46 ∷ (places ++ rest)) ≡ suc (length places)
 fraction_is places rest d e =
     let k = run_is is_digit places rest d.1 e in
     cond-false (prefix_len is_digit (places ++ rest) == 0) _ _ (ap (λ (n : ℕ). n == 0) k ∙ not_empty places d.0) ∙ ap suc k
@@ -69,7 +69,7 @@ pub record Fraction (text : List ℕ) : Type 0 where
   pub places : List ℕ
   pub rest : List ℕ
   pub parts : text ≡ 46 ∷ (places ++ rest)
-  pub digits : IsDigits places
+  pub digits : AreDigits places
   pub stops : begins_with is_digit rest ≡ false
 
 fraction_cases : (text : List ℕ) → Fraction text ⊎ (begins_with_fraction text ≡ false)
@@ -102,7 +102,7 @@ digit_no_sign b e =
     or_from (b == 43) (b == 45) (ne_eqb b 43 (λ x. absurd (omega (arith, l, x)))) (ne_eqb b 45 (λ x. absurd (omega (arith, l, x))))
 
 -- a number of a sign, digits, and a tail that begins with no digit
-signed_len : (sign digits tail : List ℕ) → IsNumberSign sign → IsDigits digits → begins_with is_digit tail ≡ false → number_len (sign ++ (digits ++ tail)) ≡ length sign + (length digits + fraction_len tail)
+signed_len : (sign digits tail : List ℕ) → IsNumberSign sign → AreDigits digits → begins_with is_digit tail ≡ false → number_len (sign ++ (digits ++ tail)) ≡ length sign + (length digits + fraction_len tail)
 signed_len sign [] tail s d e = absurd (d.0 refl)
 signed_len sign (x ∷ digits) tail (inl s) d e =
     ap (λ t. number_len (t ++ ((x ∷ digits) ++ tail))) s ∙ cond-false (is_number_sign x) _ _ (digit_no_sign x d.1.0) ∙ cond-true (is_digit x) _ _ d.1.0 ∙ digits_are (x ∷ digits) tail d.1 e
@@ -114,12 +114,12 @@ signed_len sign (x ∷ digits) tail (inr s) d e =
     ∙ ap suc (digits_are (x ∷ digits) tail d.1 e)
     ∙ (let l = ap length s.1 in omega (arith, l))
 
-pub whole_len : (sign digits own rest : List ℕ) → own ≡ sign ++ digits → IsNumberSign sign → IsDigits digits → begins_with is_digit rest ≡ false → begins_with_fraction rest ≡ false → number_len (own ++ rest) ≡ length own
+pub whole_len : (sign digits own rest : List ℕ) → own ≡ sign ++ digits → IsNumberSign sign → AreDigits digits → begins_with is_digit rest ≡ false → begins_with_fraction rest ≡ false → number_len (own ++ rest) ≡ length own
 whole_len sign digits own rest p s d e f =
     ap (λ t. number_len (t ++ rest)) p ∙ ap number_len (append_assoc sign digits rest) ∙ signed_len sign digits rest s d e
     ∙ (let k = fraction_none rest f in let l = ap length p in let m = length-append sign digits in omega (arith, k, l, m))
 
-pub fraction_number_len : (sign digits places own rest : List ℕ) → own ≡ sign ++ (digits ++ 46 ∷ places) → IsNumberSign sign → IsDigits digits → IsDigits places → begins_with is_digit rest ≡ false → number_len (own ++ rest) ≡ length own
+pub fraction_number_len : (sign digits places own rest : List ℕ) → own ≡ sign ++ (digits ++ 46 ∷ places) → IsNumberSign sign → AreDigits digits → AreDigits places → begins_with is_digit rest ≡ false → number_len (own ++ rest) ≡ length own
 fraction_number_len sign digits places own rest p s d q e =
     ap (λ t. number_len (t ++ rest)) p ∙ ap number_len (append_assoc sign (digits ++ 46 ∷ places) rest ∙ ap (λ t. sign ++ t) (append_assoc digits (46 ∷ places) rest))
     ∙ signed_len sign digits (46 ∷ (places ++ rest)) s d refl
@@ -133,7 +133,7 @@ pub record NumberAt (text : List ℕ) : Type 0 where
   pub is_number : IsToken Number own own rest
   pub count : number_len text ≡ length own
 
-number_from : (sign digits tail text : List ℕ) → text ≡ sign ++ (digits ++ tail) → IsNumberSign sign → IsDigits digits → begins_with is_digit tail ≡ false → NumberAt text
+number_from : (sign digits tail text : List ℕ) → text ≡ sign ++ (digits ++ tail) → IsNumberSign sign → AreDigits digits → begins_with is_digit tail ≡ false → NumberAt text
 number_from sign digits tail text p s d e = elim (fraction_cases tail) [
   | inl f ↦
       let own : List ℕ = sign ++ (digits ++ 46 ∷ f.places) in

@@ -28,6 +28,15 @@ Grammar A = A → List Token → Type 0
 abbrev pub Stopping : Type 0 → Type 1
 Stopping A = A → Option Token → Type 0
 
+-- whether there is such a token and it passes a test
+abbrev pub passes_first : (Token → Bool) → Option Token → Bool
+passes_first test None = false
+passes_first test (Some t) = test t
+
+-- no token follows that passes a test
+abbrev pub NotBefore : {A : Type 0} → (Token → Bool) → Stopping A
+NotBefore test a next = passes_first test next ≡ false
+
 -- whatever follows
 abbrev pub Anyhow : {A : Type 0} → A → Option Token → Type 0
 Anyhow a next = Unit {0}

@@ -6,4 +6,5 @@ pub mod Lines
 pub mod Reading
 pub mod Laws
 pub mod Lists
+pub mod Judged
 pub mod steps

@@ -1,34 +1,7 @@
 -- What stands between two quote signs.
-use Rattle.std.specs.Prelude.{◌≡◌, ◌≢◌, ℕ, ◌+◌, ◌-◌, ◌*◌, Bool, false, ◌&&◌, ◌==◌, nat_le, if◌then◌else◌, List, [], ◌∷◌}
-use Rattle.std.specs.Prelude.{◌++◌, Option, Some, None, is_some, length}
+use Rattle.std.specs.Prelude.{◌≡◌, ◌≢◌, ℕ, ◌+◌, ◌*◌, false, ◌==◌, List, [], ◌∷◌, ◌++◌, Some, length}
+use Rattle.dict_value.specs.Escapes.{begins_with_digits, hex_digit, unescaped}
 use Rattle.ddl_tokens.specs.Letters.{begins_with}
-
--- the value of a hexadecimal digit: 0 to 9, A to F, a to f
-unfoldable pub hex_digit : ℕ → Option ℕ
-hex_digit b =
-    if nat_le 48 b && nat_le b 57 then Some (b - 48)
-    else if nat_le 65 b && nat_le b 70 then Some (b - 55)
-    else if nat_le 97 b && nat_le b 102 then Some (b - 87)
-    else None
-
--- whether a text begins with two hexadecimal digits
-abbrev pub begins_with_digits : List ℕ → Bool
-begins_with_digits [] = false
-begins_with_digits (b ∷ []) = false
-begins_with_digits (high ∷ low ∷ rest) = is_some (hex_digit high) && is_some (hex_digit low)
-
--- the byte that a backslash and this byte stand for: \b \f \r \n \t \0 \a \v have their usual bytes
-unfoldable pub unescaped : ℕ → ℕ
-unescaped b =
-    if b == 98 then 8
-    else if b == 102 then 12
-    else if b == 114 then 13
-    else if b == 110 then 10
-    else if b == 116 then 9
-    else if b == 48 then 0
-    else if b == 97 then 7
-    else if b == 118 then 11
-    else b
 
 -- The bytes between two quote signs q, a backslash being 92 and `x` 120, and the bytes that they stand for.
 pub data StandsFor (q : ℕ) : List ℕ → List ℕ → Type 0 where

@@ -39,8 +39,8 @@ IsLastGap text = IsGap text
 
 -- ---- tokens
 
-abbrev pub IsDigits : List ℕ → Type 0
-IsDigits text = (text ≢ []) × AllByRecursion (λ b. is_digit b ≡ true) text
+abbrev pub AreDigits : List ℕ → Type 0
+AreDigits text = (text ≢ []) × AllByRecursion (λ b. is_digit b ≡ true) text
 
 -- one sign or none
 abbrev pub IsNumberSign : List ℕ → Type 0
@@ -55,10 +55,10 @@ begins_with_fraction (b ∷ bytes) = b == 46 && begins_with is_digit bytes
 pub data IsToken : TokenKind → List ℕ → List ℕ → List ℕ → Type 0 where
   word : {b : ℕ} {own rest : List ℕ} → is_word_start b ≡ true → AllByRecursion (λ c. is_word_byte c ≡ true) own
       → begins_with is_word_byte rest ≡ false → IsToken Word (b ∷ own) (b ∷ own) rest
-  whole : {own rest : List ℕ} (sign digits : List ℕ) → own ≡ sign ++ digits → IsNumberSign sign → IsDigits digits
+  whole : {own rest : List ℕ} (sign digits : List ℕ) → own ≡ sign ++ digits → IsNumberSign sign → AreDigits digits
       → begins_with is_digit rest ≡ false → begins_with_fraction rest ≡ false → IsToken Number own own rest
   fraction : {own rest : List ℕ} (sign digits places : List ℕ) → own ≡ sign ++ (digits ++ 46 ∷ places)
-      → IsNumberSign sign → IsDigits digits → IsDigits places → begins_with is_digit rest ≡ false
+      → IsNumberSign sign → AreDigits digits → AreDigits places → begins_with is_digit rest ≡ false
       → IsToken Number own own rest
   sign : {b : ℕ} {rest : List ℕ} → is_sign b ≡ true → IsToken Sign (b ∷ []) (b ∷ []) rest
   quoted : {q : ℕ} {kind : TokenKind} {inside bytes own rest : List ℕ} → quoted_kind q ≡ Some kind

@@ -1,45 +1,12 @@
 // What stands between two quote signs.
 ghost use Rattle.std.specs.Prelude.{◌≡◌, ◌<◌, ◌≤◌, ◌+◌, ◌∷◌, ℕ, length, IfOk, IfSome};
 ghost use Rattle.ddl_tokens.specs.Letters.{same_letters};
-ghost use Rattle.ddl_tokens.specs.Quoted.{unescaped, hex_digit};
 ghost use Rattle.ddl_tokens.specs.steps.Lexer.{bytes_in, ending, spoiled, closes, plain, escaped, EndingIs, HexByteIs};
 ghost use Rattle.ddl_tokens.specs.steps.Lexer.{ScanWithin, StepIs, StepWithin};
 
 use crate::letters::{LetterCase, folded};
-use dict_value::{Bytes, NoMemory};
+use dict_value::{Bytes, NoMemory, hex_digit, unescaped};
 use std::alloc::Global;
-
-/// The value of a hexadecimal digit.
-#[tactic(auto, unfolding(crate::specs::Quoted::hex_digit))]
-fn hex_digit(b: u8) -> Option<u8>
-    ensures value { result ≡ hex_digit b }
-    ensures small { IfSome result (λ digit. digit < 16) }
-{
-    match b {
-        b'0'..=b'9' => Some(b - b'0'),
-        b'A'..=b'F' => Some(b - b'A' + 10),
-        b'a'..=b'f' => Some(b - b'a' + 10),
-        _ => None,
-    }
-}
-
-/// The byte that a backslash and this byte stand for.
-#[tactic(auto, unfolding(crate::specs::Quoted::unescaped))]
-fn unescaped(b: u8) -> u8
-    ensures { result ≡ unescaped b }
-{
-    match b {
-        b'b' => 8,
-        b'f' => 12,
-        b'r' => 13,
-        b'n' => 10,
-        b't' => 9,
-        b'0' => 0,
-        b'a' => 7,
-        b'v' => 11,
-        _ => b,
-    }
-}
 
 /// The byte of the two hexadecimal digits that come first, and what stands behind them.
 #[tactic(auto, unfolding(crate::specs::steps::Lexer::bytes_in))]
@@ -153,7 +120,7 @@ fn step_at(quote: u8, text: &[u8]) -> Step<'_>
 }
 
 /// The byte that a backslash and what follows it stand for, and what stands behind them.
-#[tactic(auto, unfolding(crate::specs::steps::Lexer::bytes_in, crate::specs::Quoted::unescaped))]
+#[tactic(auto, unfolding(crate::specs::steps::Lexer::bytes_in, dict_value::specs::Escapes::unescaped))]
 fn escape_at(c: u8, behind: &[u8]) -> (u8, &[u8])
     ensures value { (q : ℕ) → bytes_in q escaped (c ∷ behind.now) ≡ result.0 ∷ bytes_in q plain result.1.now }
     ensures shorter { length result.1.now ≤ length behind.now }

@@ -1,5 +1,5 @@
 // A text, token by token.
-ghost use Rattle.std.specs.Prelude.{◌≡◌, ◌≢◌, ◌<◌, Err, length, drop, List, IfOk, OnOk, IsTrue};
+ghost use Rattle.std.specs.Prelude.{◌≡◌, ◌≢◌, ◌<◌, Err, length, drop, List, IfOk, OnErr, OnOk, IsTrue};
 ghost use Rattle.ddl_tokens.specs.declared.fault.ReadFault.TheVariants as fault;
 ghost use Rattle.ddl_tokens.specs.declared.fault.SyntaxFault.TheVariants.{Unexpected};
 ghost use Rattle.ddl_tokens.specs.Letters.{same_letters};
@@ -156,6 +156,7 @@ impl<'a> Reader<'a> {
         ensures value { Gives (λ _. tt) result self.new (keyword_at word.now self.old) }
         ensures takes_none { result ≢ Err fault.NoMemory }
         ensures shorter { OnOk result (length self.new < length self.old) }
+        ensures stays { OnErr result (self.new ≡ self.old) }
     {
         if !self.sees_keyword(word) {
             return Err(self.unexpected());
@@ -169,6 +170,7 @@ impl<'a> Reader<'a> {
         ensures value { Gives (λ _. tt) result self.new (sign_at sign self.old) }
         ensures takes_none { result ≢ Err fault.NoMemory }
         ensures shorter { OnOk result (length self.new < length self.old) }
+        ensures stays { OnErr result (self.new ≡ self.old) }
     {
         if !self.sees_sign(sign) {
             return Err(self.unexpected());
@@ -182,6 +184,7 @@ impl<'a> Reader<'a> {
     pub fn name(&mut self, alloc: Global) -> Result<Bytes, ReadFault>
         ensures value { Gives (λ bytes. bytes) result self.new (bytes_at is_name self.old) }
         ensures shorter { OnOk result (length self.new < length self.old) }
+        ensures stays { OnErr result (self.new ≡ self.old) }
     {
         if !self.sees_name() {
             return Err(self.unexpected());
@@ -195,6 +198,7 @@ impl<'a> Reader<'a> {
     pub fn string(&mut self, alloc: Global) -> Result<Bytes, ReadFault>
         ensures value { Gives (λ bytes. bytes) result self.new (bytes_at is_string self.old) }
         ensures shorter { OnOk result (length self.new < length self.old) }
+        ensures stays { OnErr result (self.new ≡ self.old) }
     {
         if !self.sees_string() {
             return Err(self.unexpected());
@@ -210,6 +214,7 @@ impl<'a> Reader<'a> {
         ensures value { Gives (λ text. text.now) result self.new (bytes_at is_number self.old) }
         ensures takes_none { result ≢ Err fault.NoMemory }
         ensures shorter { OnOk result (length self.new < length self.old) }
+        ensures stays { OnErr result (self.new ≡ self.old) }
     {
         let TokenKind::Number = self.token.kind else {
             return Err(self.unexpected());

@@ -17,7 +17,7 @@ use Rattle.ddl_tokens_example.specs.declared.order.Clause.{Clause}
 use Rattle.ddl_tokens_example.specs.declared.order.Clause.TheVariants as clause
 use Rattle.ddl_tokens_example.specs.declared.order.ClauseKind.{ClauseKind}
 use Rattle.ddl_tokens_example.specs.declared.order.ClauseKind.TheVariants as kind
-use Rattle.ddl_tokens_example.specs.Grammar.{item, order, IsTimes, IsItem, ItemStops, IsClause, kind_of, kind_number, number, AreClauses, IsOrder, OrderStops}
+use Rattle.ddl_tokens_example.specs.Grammar.{item, order, IsTimes, IsItem, ItemStops, IsClause, clause_kind, kind_number, number, AreClauses, IsOrder, OrderStops}
 use Rattle.ddl_tokens_example.specs.Reading.{times_at, item_at, clause_at, next_clause, order_at}
 
 times_law : {Before : Option Token → Type 0} → Lawful Before times_at (Optional IsTimes) (OptionalStops (is_keyword (codes "TIMES")) Anyhow)
@@ -35,7 +35,7 @@ clause_law kind.Note = then (keyword (codes "NOTE")) (λ _. made clause.Note Any
 clause_law kind.Due = then (keyword (codes "DUE")) (λ _. made clause.Due Anyhow (λ a o s. tt) (λ a o s. tt) (bytes is_number Number refl))
 
 -- each clause begins with its own keyword
-clause_headed : (k : ClauseKind) (a : Clause) (own : List Token) → IsClause k a own → (t : Token) × (rest : List Token) × (own ≡ t ∷ rest) × (kind_of t ≡ Ok (Some k))
+clause_headed : (k : ClauseKind) (a : Clause) (own : List Token) → IsClause k a own → (t : Token) × (rest : List Token) × (own ≡ t ∷ rest) × (clause_kind t ≡ Ok (Some k))
 unfolding same_letters
 clause_headed kind.Price a own h =
     let p = headed (is_keyword (codes "PRICE")) (λ _. tt {0}) (λ _. Made clause.Price (IsBytes is_number)) a own h in
@@ -58,7 +58,7 @@ clause_numbered kind.Note a own h = ap number h.behind.is
 clause_numbered kind.Due a own h = ap number h.behind.is
 
 -- no token is refused for the kind that it begins
-kind_placed : (t : Token) (e : SyntaxFault) → kind_of t ≡ Err e → t.place ≡ place_of e
+kind_placed : (t : Token) (e : SyntaxFault) → clause_kind t ≡ Err e → t.place ≡ place_of e
 kind_placed t e h = absurd (never (is_keyword (codes "PRICE") t) (is_keyword (codes "NOTE") t) (is_keyword (codes "DUE") t) h) where
   never : (b c d : Bool) → cond {A = Kind ClauseKind} b (Ok (Some kind.Price)) (cond c (Ok (Some kind.Note)) (cond d (Ok (Some kind.Due)) (Ok None))) ≡ Err e → ⊥
   never true c d f = absurd cc
@@ -66,7 +66,7 @@ kind_placed t e h = absurd (never (is_keyword (codes "PRICE") t) (is_keyword (co
   never false false true f = absurd cc
   never false false false f = absurd cc
 
-clauses_law : {Before : Option Token → Type 0} → Lawful Before (repeat next_clause []) AreClauses (BeginsNone kind_of)
+clauses_law : {Before : Option Token → Type 0} → Lawful Before (repeat next_clause []) AreClauses (BeginsNone clause_kind)
 unfolding next_clause
 clauses_law = in_any_order (kind.Price ∷ []) kind_placed clause_law clause_headed clause_numbered
 

@@ -37,8 +37,8 @@ IsClause kind.Note = Then (IsKeyword (codes "NOTE")) (λ _. Made clause.Note (Is
 IsClause kind.Due = Then (IsKeyword (codes "DUE")) (λ _. Made clause.Due (IsBytes is_number))
 
 -- the kind of the clause that a token begins
-abbrev pub kind_of : Token → Result (Option ClauseKind) SyntaxFault
-kind_of t =
+abbrev pub clause_kind : Token → Result (Option ClauseKind) SyntaxFault
+clause_kind t =
     if is_keyword (codes "PRICE") t then Ok (Some kind.Price)
     else if is_keyword (codes "NOTE") t then Ok (Some kind.Note)
     else if is_keyword (codes "DUE") t then Ok (Some kind.Due)
@@ -73,4 +73,4 @@ IsOrder =
     Made (order name items) AreClauses)))))
 
 abbrev pub OrderStops : Order → Option Token → Type 0
-OrderStops o next = BeginsNone kind_of o.clauses next
+OrderStops o next = BeginsNone clause_kind o.clauses next

@@ -10,7 +10,7 @@ use Rattle.ddl_tokens_example.specs.declared.order.Clause.TheVariants as clause
 use Rattle.ddl_tokens_example.specs.declared.order.ClauseKind.{ClauseKind}
 use Rattle.ddl_tokens_example.specs.declared.order.ClauseKind.TheVariants as kind
 use Rattle.ddl_tokens_example.specs.declared.order.Order.{Order}
-use Rattle.ddl_tokens_example.specs.Grammar.{item, order, kind_of, kind_number, number, wanted}
+use Rattle.ddl_tokens_example.specs.Grammar.{item, order, clause_kind, kind_number, number, wanted}
 
 unfoldable pub times_at : List Token → Read (Option (List ℕ))
 times_at ts =
@@ -39,15 +39,15 @@ clause_at kind.Due ts = do
   Ok (clause.Due value.0, value.1)
 
 -- the kind of the clause that the token in hand begins
-unfoldable pub kind_ahead : List Token → Option ClauseKind
-kind_ahead ts =
+unfoldable pub clause_ahead : List Token → Option ClauseKind
+clause_ahead ts =
     if passes (is_keyword (codes "PRICE")) ts then Some kind.Price
     else if passes (is_keyword (codes "NOTE")) ts then Some kind.Note
     else if passes (is_keyword (codes "DUE")) ts then Some kind.Due
     else None
 
 unfoldable pub next_clause : Step (List Clause)
-next_clause before ts = next_once kind_of clause_at kind_number number wanted before ts
+next_clause before ts = next_once clause_kind clause_at kind_number number wanted before ts
 
 unfoldable pub order_at : List Token → Read Order
 order_at ts = do

@@ -2,7 +2,7 @@
 ghost use Rattle.std.specs.Prelude.{◌≡◌, ◌<◌, ◌≤◌, length, IsTrue, IfOk, OnOk};
 ghost use Rattle.ddl_tokens.specs.Reading.{Gives};
 ghost use Rattle.ddl_tokens.specs.Lists.{GivesStep, has_number, next_item, repeat, separated_at};
-ghost use Rattle.ddl_tokens_example.specs.Reading.{times_at, item_at, kind_ahead, clause_at, next_clause, order_at};
+ghost use Rattle.ddl_tokens_example.specs.Reading.{times_at, item_at, clause_ahead, clause_at, next_clause, order_at};
 ghost use Rattle.ddl_tokens_example.specs.Grammar.{kind_number, number};
 
 use crate::order::{Clause, ClauseKind, Item, Order};
@@ -109,9 +109,9 @@ fn has_clause(wanted: u8, clauses: &[Clause]) -> bool
     false
 }
 
-#[tactic(auto, unfolding(crate::specs::Reading::kind_ahead))]
+#[tactic(auto, unfolding(crate::specs::Reading::clause_ahead))]
 fn kind(r: &Reader<'_>) -> Option<ClauseKind>
-    ensures { result ≡ kind_ahead r.now }
+    ensures { result ≡ clause_ahead r.now }
 {
     if r.sees_keyword(b"PRICE") {
         Some(ClauseKind::Price)

@@ -76,13 +76,13 @@ abbrev pub is_key : Definition → ℕ → Bool
 is_key d place = list_any (λ key. key == place) d.keys
 
 -- whether an end of the range stands at a place
-abbrev pub is_end : RangeOf → ℕ → Bool
-is_end range.None place = false
-is_end (range.Columns start end) place = (place == start) || (place == end)
+abbrev pub is_range_end : RangeOf → ℕ → Bool
+is_range_end range.None place = false
+is_range_end (range.Columns start end) place = (place == start) || (place == end)
 
 -- whether the column at a place is neither a key nor an end of the range
 abbrev pub is_attribute : Definition → ℕ → Bool
-is_attribute d place = not (is_key d place) && not (is_end d.range place)
+is_attribute d place = not (is_key d place) && not (is_range_end d.range place)
 
 -- the one key column, which has this type and is never NULL
 pub record HasOneKey (d : Definition) (wanted : ColType) : Type 0 where

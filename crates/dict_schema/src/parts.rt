@@ -1,6 +1,6 @@
 // What a column of a definition is for.
 ghost use Rattle.std.specs.Prelude.{◌≡◌, Some, None, MatchOption, slice_get};
-ghost use Rattle.dict_schema.specs.Parts.{is_attribute, is_end, is_key};
+ghost use Rattle.dict_schema.specs.Parts.{is_attribute, is_range_end, is_key};
 
 use crate::definition::{Column, Definition, RangeOf};
 
@@ -23,8 +23,8 @@ pub(crate) fn is_key(d: &Definition, place: usize) -> bool
 }
 
 /// Whether an end of the range stands at a place.
-fn is_end(range: &RangeOf, place: usize) -> bool
-    ensures { result ≡ is_end range.now place }
+fn is_range_end(range: &RangeOf, place: usize) -> bool
+    ensures { result ≡ is_range_end range.now place }
 {
     match range {
         RangeOf::None => false,
@@ -37,5 +37,5 @@ fn is_end(range: &RangeOf, place: usize) -> bool
 pub(crate) fn is_attribute(d: &Definition, place: usize) -> bool
     ensures { result ≡ is_attribute d.now place }
 {
-    !is_key(d, place) && !is_end(&d.range, place)
+    !is_key(d, place) && !is_range_end(&d.range, place)
 }

@@ -3,6 +3,7 @@ pub mod Addresses
 pub mod Dates
 pub mod Decimals
 pub mod Digits
+pub mod Escapes
 pub mod FindByKey
 pub mod Identifiers
 pub mod Letters

@@ -23,12 +23,14 @@ mod decimals;
 #[cfg(test)]
 mod decimals_tests;
 pub mod digit_text;
+mod escapes;
 pub mod fault;
 mod fits;
 mod identifiers;
 #[cfg(test)]
 mod identifiers_tests;
 mod laws;
+pub mod letters;
 pub mod list;
 mod number_texts;
 mod numbers;
@@ -47,6 +49,7 @@ pub use addresses::{read_address, read_prefix};
 pub use bytes::Bytes;
 pub use counted::{Counted, Counter, Tally, Uncounted};
 pub use digit_text::read_digits;
+pub use escapes::{hex_digit, unescaped};
 pub use fault::{BadRow, BlockFault, CallFault, Cause, Exit, FetchFault, LineFault, NoMemory, Why};
 pub use fits::fits_column;
 pub use laws::{

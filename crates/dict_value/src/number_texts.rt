@@ -34,7 +34,7 @@ pub(crate) fn push_v4(out: &mut Bytes, address: &Ipv4Addr) -> Result<(), NoMemor
     push_number(out, d)
 }
 
-fn hex_digit(digit: u16) -> u8
+fn digit_letter(digit: u16) -> u8
     requires { digit < 16 }
     ensures { result ≡ digit_char digit }
 {
@@ -65,10 +65,10 @@ fn push_group(out: &mut Bytes, group: u16) -> Result<(), NoMemory>
     ensures err { OnErr result (out.new ≡ out.old) }
 {
     let digits = [
-        hex_digit(group / 0x1000),
-        hex_digit(group / 0x100 % 16),
-        hex_digit(group / 0x10 % 16),
-        hex_digit(group % 16),
+        digit_letter(group / 0x1000),
+        digit_letter(group / 0x100 % 16),
+        digit_letter(group / 0x10 % 16),
+        digit_letter(group % 16),
     ];
     out.extend(&digits[leading_zero_digits(group)..])
 }

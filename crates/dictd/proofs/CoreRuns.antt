@@ -9,10 +9,9 @@ use Rattle.load_core.specs.declared.dictionary.DictEvent.{DictEvent}
 use Rattle.load_core.specs.declared.dictionary.DictEvent.TheVariants.{Start, Piece}
 use Rattle.load_core.specs.declared.dictionary.Phase.TheVariants.{Idle, Reading}
 use Rattle.load_core.specs.declared.dictionary.DictEffect.TheVariants as effect
-use Rattle.load_core.specs.DictSteps.{stepped, row, refused, Stepped}
+use Rattle.load_core.specs.DictSteps.{most_loads, stepped, row, refused, DictStepped}
 use Rattle.std.proofs.lemmas.Bool.Decides.{nat_tests}
 use Rattle.std.specs.Prelude.{if◌then◌else◌}
-use Rattle.dictd.specs.Loads.{most_loads}
 use Rattle.load_core.specs.declared.flat.TableFault.{TableFault}
 use Rattle.load_core.specs.declared.flat.TableFault.TheVariants.{Refused, NoMemory}
 use Rattle.dictd.specs.declared.ending.LoadEnd.{LoadEnd}
@@ -26,7 +25,7 @@ core_after-append core [] second = refl
 core_after-append core (event ∷ first) second = core_after-append (stepped core event).core first second
 
 -- a piece leaves a core that reads
-piece-row : (t : Bool) (core : DictCore) → (if t then (let s : Stepped = record { core = core; effect = effect.Taken } in s) else refused core).core ≡ core
+piece-row : (t : Bool) (core : DictCore) → (if t then (let s : DictStepped = record { core = core; effect = effect.Taken } in s) else refused core).core ≡ core
 piece-row true core = refl
 piece-row false core = refl
 
@@ -34,7 +33,7 @@ piece-keeps : (core : DictCore) (count : ℕ) → core.phase ≡ Reading → (st
 piece-keeps core count reading = ap (λ p. (row p (Piece count) core).core) reading ∙ piece-row (nat_lt 0 count) core
 
 -- a load began: the loads weren't used up, and the core reads
-begun-row : (t : Bool) (core : DictCore) (number : ℕ) → nat_lt core.loads 9223372036854775807 ≡ t → effect.Begun number ≡ (if t then (let s : Stepped = record { core = record core { loads = core.loads + 1; phase = Reading }; effect = effect.Begun (core.loads + 1) } in s) else refused core).effect → (core.loads < most_loads) × ((if t then (let s : Stepped = record { core = record core { loads = core.loads + 1; phase = Reading }; effect = effect.Begun (core.loads + 1) } in s) else refused core).core.phase ≡ Reading)
+begun-row : (t : Bool) (core : DictCore) (number : ℕ) → nat_lt core.loads 9223372036854775807 ≡ t → effect.Begun number ≡ (if t then (let s : DictStepped = record { core = record core { loads = core.loads + 1; phase = Reading }; effect = effect.Begun (core.loads + 1) } in s) else refused core).effect → (core.loads < most_loads) × ((if t then (let s : DictStepped = record { core = record core { loads = core.loads + 1; phase = Reading }; effect = effect.Begun (core.loads + 1) } in s) else refused core).core.phase ≡ Reading)
 begun-row true core number test e = (grind (arith, nat_tests), refl)
 begun-row false core number test e = cc
 

@@ -14,15 +14,15 @@ use Rattle.load_core.proofs.OneVerdict as verdict
 use Rattle.dictd.specs.declared.ending.LoadEnd.{LoadEnd}
 use Rattle.dictd.specs.declared.ending.LoadEnd.TheVariants.{Published, Failed, NoMemory}
 use Rattle.dictd.specs.Loads.{EndsLoad, IsCause}
-use Rattle.dictd.specs.ThinRows.{IsRefused, IsTableOf, Table, thin_shape}
+use Rattle.dictd.specs.ThinRows.{IsRefused, IsTableIn, Table, thin_shape}
 
 one-answer : (output : List ℕ) (a b : Result (List (List Value)) DecodeFault) → Decode thin_shape Tab output a → Decode thin_shape Tab output b → a ≡ b
 one-answer output a b p q = one-decoding Tab (columns_of Tab thin_shape) output a b p q
 
-pub one-table : (output : List ℕ) (rows others : Table) → IsTableOf output rows → IsTableOf output others → rows ≡ others
+pub one-table : (output : List ℕ) (rows others : Table) → IsTableIn output rows → IsTableIn output others → rows ≡ others
 one-table output rows others p q = verdict.one-table (Decode thin_shape Tab output) (one-answer output) rows others p q
 
-pub not-refused : (output : List ℕ) (rows : Table) (cause : Cause) → IsTableOf output rows → ¬ IsRefused output cause
+pub not-refused : (output : List ℕ) (rows : Table) (cause : Cause) → IsTableIn output rows → ¬ IsRefused output cause
 not-refused output rows cause t p = verdict.not-refused (Decode thin_shape Tab output) (one-answer output) rows cause t p
 
 pub one-cause : (output : List ℕ) (cause other : Cause) → IsRefused output cause → IsRefused output other → cause ≡ other
@@ -42,7 +42,7 @@ same-cause output (piece.Ended (Code (negsuc n))) cause other p q = p.1 (λ e. c
 same-cause output piece.NoMemory cause other p q = absurd p
 
 -- a table isn't refused
-clash : (output : List ℕ) (ending : PieceEnd) (rows : Table) (cause : Cause) → ending ≡ piece.Ended (Code (pos 0)) → IsTableOf output rows → IsCause output ending cause → ⊥
+clash : (output : List ℕ) (ending : PieceEnd) (rows : Table) (cause : Cause) → ending ≡ piece.Ended (Code (pos 0)) → IsTableIn output rows → IsCause output ending cause → ⊥
 clash output ending rows cause ended t p =
     let at : IsCause output (piece.Ended (Code (pos 0))) cause = subst (λ e. IsCause output e cause) ended p in
     not-refused output rows cause t (at.0 refl)
@@ -61,7 +61,7 @@ one-end output ending (Failed cause) NoMemory old new more p q some some' = absu
 
 -- a table of a child that ended with status 0 is published
 pub published : (output : List ℕ) (ending : PieceEnd) (end : LoadEnd) (old new : List Table) (rows : Table) → EndsLoad output ending end old new → end ≢ NoMemory → ending ≡ piece.Ended (Code (pos 0))
-    → IsTableOf output rows → (end ≡ Published (length new)) × (new ≡ old ++ rows ∷ [])
+    → IsTableIn output rows → (end ≡ Published (length new)) × (new ≡ old ++ rows ∷ [])
 published output ending (Published n) old new rows (ended, (others, u, list, number)) some at t =
     (ap Published number, list ∙ ap (λ (table : Table). old ++ table ∷ []) (one-table output others rows u t))
 published output ending (Failed cause) old new rows (p, same) some at t = absurd (clash output ending rows cause at t p)

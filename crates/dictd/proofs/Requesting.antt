@@ -9,7 +9,7 @@ use Rattle.dictd.specs.declared.session.Requests.{Requests}
 use Rattle.dictd.specs.declared.thin.ThinDefinition.{ThinDefinition}
 use Rattle.dictd.specs.Asked.{IsRequestsOf}
 use Rattle.dictd.specs.Loads.{State, Loads}
-use Rattle.dictd.specs.Requests.{AsksFor, AsksToLoad, IsValue, Loaded, refusal, version_name, value_text, load_reply}
+use Rattle.dictd.specs.Requests.{AsksFor, AsksToLoad, IsValue, Loaded, refusal, version_name, text_of_attribute, load_reply}
 use Rattle.dictd.specs.ThinRows.{Table}
 use Rattle.dictd.specs.Sessions.{Value, Load, Unread, NoMemory, Says}
 use Rattle.dictd.proofs.Fields.{behind-once}
@@ -40,8 +40,8 @@ key-none d requests line is none key a = none a.digits (asks-digits d requests l
 
 -- the value of a key in what was seen
 pub value-seen : (versions : List Table) (key number : ℕ) (rows : Table) (version : Option (Table)) (reply : List ℕ) → number ≡ length versions → version ≡ entry versions (length versions) → version ≡ Some rows
-    → reply ≡ codes "OK" ++ 9 ∷ (version_name number ++ 9 ∷ (value_text rows key ++ 10 ∷ [])) → IsValue versions key reply
-value-seen versions key number rows version reply n v some e = Loaded rows (sym v ∙ some) (e ∙ ap (λ z. codes "OK" ++ 9 ∷ (version_name z ++ 9 ∷ (value_text rows key ++ 10 ∷ []))) n)
+    → reply ≡ codes "OK" ++ 9 ∷ (version_name number ++ 9 ∷ (text_of_attribute rows key ++ 10 ∷ [])) → IsValue versions key reply
+value-seen versions key number rows version reply n v some e = Loaded rows (sym v ∙ some) (e ∙ ap (λ z. codes "OK" ++ 9 ∷ (version_name z ++ 9 ∷ (text_of_attribute rows key ++ 10 ∷ []))) n)
 
 -- what is said of a load
 pub says-load : (d : ThinDefinition) (old new : State) (line reply : List ℕ) (end : LoadEnd) (said : Result (Unit {0}) OutOfMemory) → AsksToLoad d line → Loads old end new → OnOk said (reply ≡ load_reply end) → Says d old line said reply new

@@ -13,17 +13,17 @@ use Rattle.child_io.specs.Runs.{RunTold}
 use Rattle.dictd.specs.declared.ending.LoadEnd.{LoadEnd}
 use Rattle.dictd.specs.declared.ending.LoadEnd.TheVariants.{Published, Failed, NoMemory as EndNoMemory}
 use Rattle.dictd.specs.Loads.{IsCause, most_output}
-use Rattle.dictd.specs.ThinRows.{IsTableOf, Table}
+use Rattle.dictd.specs.ThinRows.{IsTableIn, Table}
 
 -- the rows of the whole output of a child that ended with status 0, or the cause; want of memory may come at any output
-abbrev pub IsJudged : Gathered → PieceEnd → Result Table TableFault → Type 0
-IsJudged gathered ending (Ok rows) = (ending ≡ Ended (Code (pos 0))) × (gathered.lost ≡ false) × IsTableOf gathered.bytes rows
-IsJudged gathered ending (Err (Refused cause)) = (output : List ℕ) → (gathered.lost ≡ false → gathered.bytes ≡ output) → IsCause output ending cause
-IsJudged gathered ending (Err NoMemory) = ⊤
+abbrev pub IsTableJudged : Gathered → PieceEnd → Result Table TableFault → Type 0
+IsTableJudged gathered ending (Ok rows) = (ending ≡ Ended (Code (pos 0))) × (gathered.lost ≡ false) × IsTableIn gathered.bytes rows
+IsTableJudged gathered ending (Err (Refused cause)) = (output : List ℕ) → (gathered.lost ≡ false → gathered.bytes ≡ output) → IsCause output ending cause
+IsTableJudged gathered ending (Err NoMemory) = ⊤
 
 -- the same of a child's whole output, and that the child ran so
 abbrev pub IsRead : (List (List ℕ) → List ℕ → Exit → Type 0) → List (List ℕ) → List ℕ → PieceEnd → Result Table TableFault → Type 0
-IsRead ran words output ending (Ok rows) = (ending ≡ Ended (Code (pos 0))) × ran words output (Code (pos 0)) × IsTableOf output rows
+IsRead ran words output ending (Ok rows) = (ending ≡ Ended (Code (pos 0))) × ran words output (Code (pos 0)) × IsTableIn output rows
 IsRead ran words output ending (Err (Refused cause)) = IsCause output ending cause
 IsRead ran words output ending (Err NoMemory) = ⊤
 

@@ -17,18 +17,14 @@ use Rattle.load_core.specs.declared.dictionary.DictEvent.{DictEvent}
 use Rattle.load_core.specs.declared.dictionary.DictEvent.TheVariants.{Start, Piece, Finish, Publish, Post}
 use Rattle.load_core.specs.declared.dictionary.Ending.TheVariants.{Rows, Failed as EndFailed}
 use Rattle.load_core.specs.declared.dictionary.Phase.TheVariants.{Idle}
-use Rattle.load_core.specs.DictSteps.{stepped}
-use Rattle.dictd.specs.ThinRows.{IsRefused, IsTableOf, Table}
+use Rattle.load_core.specs.DictSteps.{most_loads, stepped}
+use Rattle.dictd.specs.ThinRows.{IsRefused, IsTableIn, Table}
 use Rattle.dictd.specs.declared.ending.LoadEnd.{LoadEnd}
 use Rattle.dictd.specs.declared.ending.LoadEnd.TheVariants.{Published, Failed, NoMemory}
 
 -- the greatest number of bytes that one run may print
 abbrev pub most_output : ℕ
 most_output = 67108864
-
--- the greatest number of loads
-abbrev pub most_loads : ℕ
-most_loads = 9223372036854775807
 
 -- why a child that was read to its end gives no rows
 abbrev pub IsExitCause : List ℕ → Exit → Cause → Type 0
@@ -47,7 +43,7 @@ IsCause output NoMemoryFound cause = ⊥
 
 -- a version is the table of the whole output of one child that ended with status 0; a load that fails leaves the list, and want of memory may end any load so
 abbrev pub EndsLoad : List ℕ → PieceEnd → LoadEnd → List Table → List Table → Type 0
-EndsLoad output ending (Published number) old new = (ending ≡ Ended (Code (pos 0))) × ((rows : Table) × IsTableOf output rows × (new ≡ old ++ rows ∷ []) × (number ≡ length new))
+EndsLoad output ending (Published number) old new = (ending ≡ Ended (Code (pos 0))) × ((rows : Table) × IsTableIn output rows × (new ≡ old ++ rows ∷ []) × (number ≡ length new))
 EndsLoad output ending (Failed cause) old new = IsCause output ending cause × (new ≡ old)
 EndsLoad output ending NoMemory old new = new ≡ old
 
@@ -99,4 +95,4 @@ pub record IsIdle (versions : List Table) (core : DictCore) : Type 0 where
 
 -- a child was started with these words, this is its whole output, it ended with status 0, and these are its rows
 abbrev pub IsOrigin : (List (List ℕ) → List ℕ → Exit → Type 0) → List (List ℕ) → Table → Type 0
-IsOrigin ran words rows = (output : List ℕ) × ran words output (Code (pos 0)) × IsTableOf output rows
+IsOrigin ran words rows = (output : List ℕ) × ran words output (Code (pos 0)) × IsTableIn output rows

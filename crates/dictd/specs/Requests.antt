@@ -35,8 +35,8 @@ abbrev pub AsksToLoad : ThinDefinition → List ℕ → Type 0
 AsksToLoad d line = line ≡ codes "reload" ++ 9 ∷ d.name
 
 -- a value as a reply has it: its text, escaped as a field of TabSeparated
-abbrev pub value_text : Table → ℕ → List ℕ
-value_text rows key = field_text (field.Text (text_at rows key))
+abbrev pub text_of_attribute : Table → ℕ → List ℕ
+text_of_attribute rows key = field_text (field.Text (text_at rows key))
 
 -- an error's reply, by its number
 abbrev pub refusal : List ℕ → List ℕ
@@ -50,7 +50,7 @@ version_name number = codes "v" ++ decimal number
 pub data IsValue (versions : List Table) (key : ℕ) (reply : List ℕ) : Type 0 where
   NotLoaded : versions ≡ [] → reply ≡ refusal (codes "5") → IsValue versions key reply
   Loaded : (rows : Table) → entry versions (length versions) ≡ Some rows
-      → reply ≡ codes "OK" ++ 9 ∷ (version_name (length versions) ++ 9 ∷ (value_text rows key ++ 10 ∷ []))
+      → reply ≡ codes "OK" ++ 9 ∷ (version_name (length versions) ++ 9 ∷ (text_of_attribute rows key ++ 10 ∷ []))
       → IsValue versions key reply
 
 -- the reply to a load

@@ -11,7 +11,7 @@ use Rattle.dict_value.specs.Values.{default_value}
 use Rattle.dict_value.specs.declared.value.Format.TheVariants.{Tab}
 use Rattle.dict_value.specs.declared.value.Value.{Value}
 use Rattle.dict_value.specs.declared.value.Value.TheVariants.{U, S}
-use Rattle.load_core.specs.FlatRows.{IsRefusedFor, IsTable}
+use Rattle.load_core.specs.FlatRows.{HasNoTableFor, IsTable}
 use Rattle.rows_typed.specs.Shapes.{Decode}
 
 -- a column that isn't nullable, with the default of its type
@@ -26,11 +26,11 @@ abbrev pub Table : Type 0
 Table = List (List Value)
 
 -- an output is this table; it is refused for this cause
-abbrev pub IsTableOf : List ℕ → Table → Type 0
-IsTableOf output rows = IsTable (Decode thin_shape Tab output) rows
+abbrev pub IsTableIn : List ℕ → Table → Type 0
+IsTableIn output rows = IsTable (Decode thin_shape Tab output) rows
 
 abbrev pub IsRefused : List ℕ → Cause → Type 0
-IsRefused output cause = IsRefusedFor (Decode thin_shape Tab output) cause
+IsRefused output cause = HasNoTableFor (Decode thin_shape Tab output) cause
 
 -- whether a row has the key
 abbrev pub has_key : ℕ → List Value → Bool

@@ -85,14 +85,14 @@ abbrev pub HasNoFields : List ℕ → Type 0
 HasNoFields text = (name key attribute again command : List ℕ) → HasFields text name key attribute again command → ⊥
 
 -- the names and the command are in form
-pub record IsSound (d : ThinDefinition) : Type 0 where
+pub record IsSoundThin (d : ThinDefinition) : Type 0 where
   pub names : HasNames d.name d.key d.attribute d.key
   pub command : IsCommand d.source.command
   pub source : d.source ≡ source_of d.source.command
 
 -- the file defines this; one line feed may follow
 pub record Defines (text : List ℕ) (d : ThinDefinition) : Type 0 where
-  pub sound : IsSound d
+  pub sound : IsSoundThin d
   pub tail : List ℕ
   pub behind : (tail ≡ []) ⊎ (tail ≡ 10 ∷ [])
   pub spelled : text ≡ thin_text d.name d.key d.attribute d.source.command tail

@@ -7,13 +7,13 @@ ghost use Rattle.dict_value.specs.declared.fault.Exit.TheVariants.{Code};
 ghost use Rattle.dictd.specs.declared.ending.LoadEnd.{LoadEnd};
 ghost use Rattle.dictd.specs.declared.ending.LoadEnd.TheVariants.{NoMemory, Published};
 ghost use Rattle.dictd.specs.Loads.{EndsLoad};
-ghost use Rattle.dictd.specs.ThinRows.{IsRefused, IsTableOf, Table};
+ghost use Rattle.dictd.specs.ThinRows.{IsRefused, IsTableIn, Table};
 
 /// An output is one table, or it is refused for one cause.
 pub fn one_judgement()
-    ensures table { (output : List ℕ) (rows others : Table) → IsTableOf output rows → IsTableOf output others
+    ensures table { (output : List ℕ) (rows others : Table) → IsTableIn output rows → IsTableIn output others
         → rows ≡ others }
-    ensures either { (output : List ℕ) (rows : Table) (cause : Cause) → IsTableOf output rows → ¬ IsRefused output cause }
+    ensures either { (output : List ℕ) (rows : Table) (cause : Cause) → IsTableIn output rows → ¬ IsRefused output cause }
     ensures cause { (output : List ℕ) (cause other : Cause) → IsRefused output cause → IsRefused output other
         → cause ≡ other }
 {}
@@ -29,5 +29,5 @@ pub fn one_load_end()
         → other ≢ NoMemory → new ≡ more }
     ensures published { (output : List ℕ) (ending : PieceEnd) (end : LoadEnd) (old new : List Table) (rows : Table)
         → EndsLoad output ending end old new → end ≢ NoMemory → ending ≡ Ended (Code (pos 0))
-        → IsTableOf output rows → (end ≡ Published (length new)) × (new ≡ old ++ rows ∷ []) }
+        → IsTableIn output rows → (end ≡ Published (length new)) × (new ≡ old ++ rows ∷ []) }
 {}

@@ -1,15 +1,15 @@
 // The loads of a dictionary: each starts one child, and publishes its rows or says why there are none.
 ghost use Rattle.std.specs.Prelude.{◌≡◌, ◌≢◌, ◌<◌, ◌≤◌, ◌∷◌, [], ℕ, List, false, length, IfOk};
 ghost use Rattle.std.specs.Result.{ForOk};
-ghost use Rattle.load_core.specs.DictSteps.{empty_core};
+ghost use Rattle.load_core.specs.DictSteps.{empty_core, most_loads};
 ghost use Rattle.dict_schema.specs.declared.definition.ShapeColumn.{ShapeColumn};
 ghost use Rattle.load_core.specs.declared.dictionary.Phase.TheVariants.{Reading};
-ghost use Rattle.dictd.specs.Loads.{Loads, RunsChild, core_after, end_events, most_loads, IsOrigin, IsIdle};
+ghost use Rattle.dictd.specs.Loads.{Loads, RunsChild, core_after, end_events, IsOrigin, IsIdle};
 ghost use Rattle.load_core.specs.declared.dictionary.DictEvent.TheVariants.{Finish, Post};
 ghost use Rattle.load_core.specs.declared.dictionary.Ending.TheVariants.{Failed as EndFailed};
 ghost use Rattle.dictd.specs.ThinRows.{plain_column, thin_shape};
 ghost use Rattle.child_io.specs.Runs.{RanChild, order_of};
-ghost use Rattle.dictd.specs.Judged.{IsJudged, ReadsChild, PublishesAs, FinishesAs};
+ghost use Rattle.dictd.specs.Judged.{IsTableJudged, ReadsChild, PublishesAs, FinishesAs};
 
 use crate::ending::LoadEnd;
 use child_io::{Gathered, PieceEnd, Pieces, Spawner, run_pieces};
@@ -102,7 +102,7 @@ fn judge(
     requires shape { shape.now ≡ thin_shape }
     requires few { gathered.now.lost ≡ false → length gathered.now.bytes ≤ 4294967295 }
     requires written { end ≢ PieceEnd.WriteFailed }
-    ensures { IsJudged gathered.now end result }
+    ensures { IsTableJudged gathered.now end result }
 {
     match end {
         PieceEnd::NotStarted => Err(TableFault::Refused(Cause::Start)),
@@ -126,7 +126,7 @@ fn judge_rows(
 ) -> Result<Rows, TableFault>
     requires shape { shape.now ≡ thin_shape }
     requires few { gathered.now.lost ≡ false → length gathered.now.bytes ≤ 4294967295 }
-    ensures { IsJudged gathered.now (PieceEnd.Ended (Exit.Code status)) result }
+    ensures { IsTableJudged gathered.now (PieceEnd.Ended (Exit.Code status)) result }
 {
     if status != 0 {
         return Err(TableFault::Refused(Cause::Status(status)));

@@ -1,7 +1,7 @@
 // Replies, composed in a buffer that is used again for each of them.
 ghost use Rattle.std.specs.Prelude.{◌≡◌, ◌++◌, ◌∷◌, [], OnOk, find, codes};
 ghost use Rattle.std.specs.Option.{option_copied};
-ghost use Rattle.dictd.specs.Requests.{version_name, load_reply, value_text};
+ghost use Rattle.dictd.specs.Requests.{version_name, load_reply, text_of_attribute};
 ghost use Rattle.dictd.specs.ThinRows.{has_key, text_at, text_behind_key};
 
 use crate::ending::LoadEnd;
@@ -63,7 +63,7 @@ fn push_version(out: &mut Bytes, number: u64) -> Result<(), NoMemory>
 
 /// The value of a key in the rows of a version.
 pub fn value_reply(out: &mut Bytes, number: u64, rows: &[Row], key: u64) -> Result<(), NoMemory>
-    ensures { OnOk result (out.new ≡ codes "OK" ++ 9 ∷ (version_name number ++ 9 ∷ (value_text rows.now key ++ 10 ∷ []))) }
+    ensures { OnOk result (out.new ≡ codes "OK" ++ 9 ∷ (version_name number ++ 9 ∷ (text_of_attribute rows.now key ++ 10 ∷ []))) }
 {
     out.clear();
     out.extend(b"OK\t")?;

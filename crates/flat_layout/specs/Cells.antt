@@ -5,14 +5,14 @@ use Rattle.flat_layout.specs.declared.flat.FlatFault.{FlatFault}
 use Rattle.flat_layout.specs.declared.flat.FlatFault.TheVariants as fault
 
 -- the place that a cell tells: none by 0, and else the number before
-abbrev pub place_of : ℕ → Option ℕ
-place_of zero = None
-place_of (suc place) = Some place
+abbrev pub place_in : ℕ → Option ℕ
+place_in zero = None
+place_in (suc place) = Some place
 
 -- a cell for each key up to the greatest, which tells what is found by that key
 pub record AreCellsOf (keys cells : List ℕ) : Type 0 where
   pub enough : (place key : ℕ) → HasKeyAt keys key place → key < length cells
-  pub told : (key : ℕ) → key < length cells → FindsByKey keys key (place_of (slice_index cells key))
+  pub told : (key : ℕ) → key < length cells → FindsByKey keys key (place_in (slice_index cells key))
 
 -- the first key that isn't below the limit
 pub record IsFirstTooLarge (keys : List ℕ) (limit key : ℕ) : Type 0 where

@@ -5,7 +5,7 @@ ghost use Rattle.dict_value.specs.FindByKey.{FindsByKey};
 ghost use Rattle.dict_value.specs.Memory.{UnlessNoMemory};
 ghost use Rattle.dict_value.specs.declared.value.TheConstants.{MOST_ROWS};
 ghost use Rattle.flat_layout.specs.Cells.{AreCellsOf, IsFirstTooLarge, IsRefusedFor};
-ghost use Rattle.flat_layout.specs.steps.Filling.{Tells};
+ghost use Rattle.flat_layout.specs.steps.Filling.{CellTells};
 ghost use Rattle.flat_layout.specs.declared.flat.FlatFault.TheVariants as fault;
 
 use dict_value::{Counted, Counter, ListOf};
@@ -84,7 +84,7 @@ fn fill(cells: &mut [u32], keys: &[u64])
     requires empty { cells.old ≡ replicate (length cells.old) 0 }
     ensures len { length cells.new ≡ length cells.old }
     ensures told { (key : ℕ) → key < length cells.new
-        → Tells keys.now (length keys.now) key (slice_index cells.new key) }
+        → CellTells keys.now (length keys.now) key (slice_index cells.new key) }
 {
     for (row, key) in keys.iter().enumerate() {
         let cell = *key as usize;

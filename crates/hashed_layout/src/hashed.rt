@@ -4,7 +4,7 @@ ghost use Rattle.dict_value.specs.FindByKey.{FindsByKey, HasKeyAt};
 ghost use Rattle.dict_value.specs.declared.value.TheConstants.{MOST_ROWS};
 ghost use Rattle.hashed_layout.specs.Probing.{home_of};
 ghost use Rattle.hashed_layout.specs.Tables.{IsTableOf, held, key_of};
-ghost use Rattle.hashed_layout.specs.steps.Filling.{EndsAt, IsTableTo};
+ghost use Rattle.hashed_layout.specs.steps.Filling.{ProbesEndAt, IsTableTo};
 
 use crate::probing::{home_of, probed};
 use dict_value::NoMemory;
@@ -45,7 +45,7 @@ fn key_of(cell: &Cell) -> u64
 fn seek(cells: &[Cell], key: u64) -> Option<usize>
     requires { length cells.now < 2 ^ 24 }
     ensures within { IfSome result (λ at. at < length cells.now) }
-    ensures ends { EndsAt (length cells.now) (home_of (length cells.now) key) (held cells.now) key result }
+    ensures ends { ProbesEndAt (length cells.now) (home_of (length cells.now) key) (held cells.now) key result }
 {
     let size = cells.len();
     let home = home_of(size, key);

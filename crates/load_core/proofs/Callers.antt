@@ -10,7 +10,7 @@ use Rattle.load_core.specs.declared.world.WorldEntry.{WorldEntry}
 use Rattle.load_core.specs.declared.world.WorldDict.{WorldDict}
 use Rattle.load_core.specs.declared.world.WorldCaller.{WorldCaller}
 use Rattle.load_core.specs.declared.world.World.{World}
-use Rattle.load_core.specs.WorldSteps.{Verdicts, Step, Run, last_number, caller_at, entered, learnt}
+use Rattle.load_core.specs.WorldSteps.{Verdicts, WorldStep, Run, last_number, caller_at, entered, learnt}
 use Rattle.load_core.specs.Laws.{entries_of, answers_in, IsLengthAtEnter}
 use Rattle.load_core.proofs.Lists.{slice_get-push}
 use Rattle.load_core.proofs.Runs.{run_more}
@@ -35,7 +35,7 @@ module _ (judges : Verdicts) (first : World) where
     pub at_enter : (k answer : ℕ) → slice_get u.answers k ≡ Some answer → IsLengthAtEnter judges first past now c d k answer
 
   -- one more event after an answer
-  at_enter_more : (past : List WorldEvent) (now : World) (event : WorldEvent) (next : World) (c d k answer : ℕ) → Step judges now event next → IsLengthAtEnter judges first past now c d k answer → IsLengthAtEnter judges first (past ++ event ∷ []) next c d k answer
+  at_enter_more : (past : List WorldEvent) (now : World) (event : WorldEvent) (next : World) (c d k answer : ℕ) → WorldStep judges now event next → IsLengthAtEnter judges first past now c d k answer → IsLengthAtEnter judges first (past ++ event ∷ []) next c d k answer
   at_enter_more past now event next c d k answer s h = record {
     earlier = h.earlier;
     later = h.later ++ event ∷ [];
@@ -49,7 +49,7 @@ module _ (judges : Verdicts) (first : World) where
     after = run_more judges h.shown h.later now event next h.after s;
   }
 
-  pub informed_same : (past : List WorldEvent) (now : World) (event : WorldEvent) (next : World) (c d : ℕ) (u : WorldCaller) → IsInformed past now c d u → Step judges now event next → length (entries_of now d) ≤ length (entries_of next d) → IsInformed (past ++ event ∷ []) next c d u
+  pub informed_same : (past : List WorldEvent) (now : World) (event : WorldEvent) (next : World) (c d : ℕ) (u : WorldCaller) → IsInformed past now c d u → WorldStep judges now event next → length (entries_of now d) ≤ length (entries_of next d) → IsInformed (past ++ event ∷ []) next c d u
   informed_same past now event next c d u h s l = record {
     floor = omega (arith, h.floor);
     below = h.below;
@@ -57,7 +57,7 @@ module _ (judges : Verdicts) (first : World) where
     at_enter = λ k answer found. at_enter_more past now event next c d k answer s (h.at_enter k answer found);
   }
 
-  pub informed_told : (past : List WorldEvent) (now : World) (event : WorldEvent) (next : World) (c d : ℕ) (u : WorldCaller) (x : WorldDict) → IsInformed past now c d u → Step judges now event next → length (entries_of now d) ≤ length (entries_of next d) → x.posted ≤ length (entries_of now d) → IsInformed (past ++ event ∷ []) next c d (learnt u x)
+  pub informed_told : (past : List WorldEvent) (now : World) (event : WorldEvent) (next : World) (c d : ℕ) (u : WorldCaller) (x : WorldDict) → IsInformed past now c d u → WorldStep judges now event next → length (entries_of now d) ≤ length (entries_of next d) → x.posted ≤ length (entries_of now d) → IsInformed (past ++ event ∷ []) next c d (learnt u x)
   informed_told past now event next c d u x h s l p = record {
     floor = omega (arith, h.floor);
     below = All-weaker (λ a. a ≤ u.core.floor) (λ a. a ≤ max u.core.floor x.posted) (λ a k. omega arith) u.answers h.below;
@@ -65,7 +65,7 @@ module _ (judges : Verdicts) (first : World) where
     at_enter = λ k answer found. at_enter_more past now event next c d k answer s (h.at_enter k answer found);
   }
 
-  pub informed_shown : (past : List WorldEvent) (now : World) (next : World) (c d : ℕ) (u : WorldCaller) (x : WorldDict) → Run judges first past now → caller_at now c d ≡ Some u → IsInformed past now c d u → Step judges now (Enter c d) next → length (entries_of now d) ≤ length (entries_of next d) → last_number x.entries ≡ length (entries_of now d) → IsInformed (past ++ Enter c d ∷ []) next c d (entered u x)
+  pub informed_shown : (past : List WorldEvent) (now : World) (next : World) (c d : ℕ) (u : WorldCaller) (x : WorldDict) → Run judges first past now → caller_at now c d ≡ Some u → IsInformed past now c d u → WorldStep judges now (Enter c d) next → length (entries_of now d) ≤ length (entries_of next d) → last_number x.entries ≡ length (entries_of now d) → IsInformed (past ++ Enter c d ∷ []) next c d (entered u x)
   informed_shown past now next c d u x run found h s l e = record {
     floor = omega (arith, h.floor);
     below = All-push (λ a. a ≤ max u.core.floor (last_number x.entries)) u.answers (last_number x.entries) (All-weaker (λ a. a ≤ u.core.floor) (λ a. a ≤ max u.core.floor (last_number x.entries)) (λ a k. omega arith) u.answers h.below) (omega arith);

@@ -14,7 +14,7 @@ use Rattle.load_core.specs.declared.world.WorldEvent.TheVariants.{Start, Finish,
 use Rattle.load_core.specs.declared.world.WorldEntry.{WorldEntry}
 use Rattle.load_core.specs.declared.world.WorldDict.{WorldDict}
 use Rattle.load_core.specs.declared.world.World.{World}
-use Rattle.load_core.specs.WorldSteps.{Verdicts, IsAnswered, Step, Run}
+use Rattle.load_core.specs.WorldSteps.{Verdicts, IsAnswered, WorldStep, Run}
 use Rattle.load_core.specs.Laws.{running, with_piece, joined, IsNoFinish, IsNoPublish, IsOfOneLoad}
 use Rattle.load_core.specs.steps.WorldTurns.{IsShort}
 use Rattle.load_core.proofs.Runs.{joined_more, run_more}
@@ -75,7 +75,7 @@ module _ (judges : Verdicts) (first : World) where
     pub load : LoadIs past now d x.core.loads x.bytes x.core.phase
 
   -- one more event while a load is read
-  pub reading_more : (past : List WorldEvent) (now : World) (d load : ℕ) (bytes more : List ℕ) (event : WorldEvent) (next : World) → IsReading past now d load bytes → Step judges now event next → IsNoFinish d event → with_piece d bytes event ≡ more → IsReading (past ++ event ∷ []) next d load more
+  pub reading_more : (past : List WorldEvent) (now : World) (d load : ℕ) (bytes more : List ℕ) (event : WorldEvent) (next : World) → IsReading past now d load bytes → WorldStep judges now event next → IsNoFinish d event → with_piece d bytes event ≡ more → IsReading (past ++ event ∷ []) next d load more
   reading_more past now d load bytes more event next r s other e = record {
     earlier = r.earlier;
     reading = r.reading ++ event ∷ [];
@@ -90,7 +90,7 @@ module _ (judges : Verdicts) (first : World) where
   }
 
   -- one more event while its rows wait
-  pub ready_more : (past : List WorldEvent) (now : World) (d load : ℕ) (bytes : List ℕ) (event : WorldEvent) (next : World) → IsReady past now d load bytes → Step judges now event next → IsNoPublish d event → IsReady (past ++ event ∷ []) next d load bytes
+  pub ready_more : (past : List WorldEvent) (now : World) (d load : ℕ) (bytes : List ℕ) (event : WorldEvent) (next : World) → IsReady past now d load bytes → WorldStep judges now event next → IsNoPublish d event → IsReady (past ++ event ∷ []) next d load bytes
   ready_more past now d load bytes event next r s other = record {
     earlier = r.earlier;
     reading = r.reading;
@@ -112,7 +112,7 @@ module _ (judges : Verdicts) (first : World) where
   }
 
   -- one more event after an entry
-  pub one_load_more : (past : List WorldEvent) (now : World) (d : ℕ) (event : WorldEvent) (next : World) → Step judges now event next → (entry : WorldEntry) → IsOfOneLoad judges first past now d entry → IsOfOneLoad judges first (past ++ event ∷ []) next d entry
+  pub one_load_more : (past : List WorldEvent) (now : World) (d : ℕ) (event : WorldEvent) (next : World) → WorldStep judges now event next → (entry : WorldEntry) → IsOfOneLoad judges first past now d entry → IsOfOneLoad judges first (past ++ event ∷ []) next d entry
   one_load_more past now d event next s entry r = record {
     earlier = r.earlier;
     reading = r.reading;
@@ -139,13 +139,13 @@ module _ (judges : Verdicts) (first : World) where
   }
 
   -- the load after an event that leaves the dictionary
-  load_same : (past : List WorldEvent) (now : World) (d load : ℕ) (bytes : List ℕ) (event : WorldEvent) (next : World) → Step judges now event next → (p : Phase) → (p ≡ Reading → IsNoFinish d event × (with_piece d bytes event ≡ bytes)) → (p ≡ Ready → IsNoPublish d event) → LoadIs past now d load bytes p → LoadIs (past ++ event ∷ []) next d load bytes p
+  load_same : (past : List WorldEvent) (now : World) (d load : ℕ) (bytes : List ℕ) (event : WorldEvent) (next : World) → WorldStep judges now event next → (p : Phase) → (p ≡ Reading → IsNoFinish d event × (with_piece d bytes event ≡ bytes)) → (p ≡ Ready → IsNoPublish d event) → LoadIs past now d load bytes p → LoadIs (past ++ event ∷ []) next d load bytes p
   load_same past now d load bytes event next s Idle reads waits h = tt
   load_same past now d load bytes event next s Reading reads waits h = let k = reads refl in reading_more past now d load bytes bytes event next h s k.0 k.1
   load_same past now d load bytes event next s Ready reads waits h = ready_more past now d load bytes event next h s (waits refl)
   load_same past now d load bytes event next s ToPost reads waits h = tt
 
-  pub sound_same : (past : List WorldEvent) (now : World) (d : ℕ) (x : WorldDict) (event : WorldEvent) (next : World) → IsSound past now d x → Step judges now event next → (x.core.phase ≡ Reading → IsNoFinish d event × (with_piece d x.bytes event ≡ x.bytes)) → (x.core.phase ≡ Ready → IsNoPublish d event) → IsSound (past ++ event ∷ []) next d x
+  pub sound_same : (past : List WorldEvent) (now : World) (d : ℕ) (x : WorldDict) (event : WorldEvent) (next : World) → IsSound past now d x → WorldStep judges now event next → (x.core.phase ≡ Reading → IsNoFinish d event × (with_piece d x.bytes event ≡ x.bytes)) → (x.core.phase ≡ Ready → IsNoPublish d event) → IsSound (past ++ event ∷ []) next d x
   sound_same past now d x event next h s reads waits = record {
     place = h.place;
     published = h.published;

@@ -21,8 +21,8 @@ use Rattle.load_core.specs.declared.world.WorldEvent.TheVariants.{Start, Piece, 
 use Rattle.load_core.specs.declared.world.WorldEntry.{WorldEntry}
 use Rattle.load_core.specs.declared.world.WorldDict.{WorldDict}
 use Rattle.load_core.specs.declared.world.World.{World}
-use Rattle.load_core.specs.DictSteps.{most_loads, Stepped, risen, refused, stepped}
-use Rattle.load_core.specs.WorldSteps.{most_bytes, Verdicts, Finishes, FinishesIn, Takes, DictStep, IsAnswered, Step, Run, counted}
+use Rattle.load_core.specs.DictSteps.{most_loads, DictStepped, risen, refused, stepped}
+use Rattle.load_core.specs.WorldSteps.{most_bytes, Verdicts, Finishes, FinishesIn, TakesEvent, DictStep, IsAnswered, WorldStep, Run, counted}
 use Rattle.load_core.specs.Laws.{running, with_piece, IsNoFinish, IsNoPublish, IsOfOneLoad}
 use Rattle.load_core.proofs.Dictionaries.{IsReading, IsReady, LoadIs, IsSound, reading_more, one_load_more, sound_same}
 use Rattle.load_core.proofs.Lists.{range_push, rising_push}
@@ -69,7 +69,7 @@ piece_left d bytes piece h = go (nat_le (length bytes + length piece) most_bytes
 
 module _ (judges : Verdicts) (first : World) (past : List WorldEvent) (now next : World) (d : ℕ) (x : WorldDict) (h : IsSound judges first past now d x) (run : Run judges first past now) where
   -- the loads of the entries so far, after one more event
-  still : (event : WorldEvent) → Step judges now event next → All (IsOfOneLoad judges first (past ++ event ∷ []) next d) x.entries
+  still : (event : WorldEvent) → WorldStep judges now event next → All (IsOfOneLoad judges first (past ++ event ∷ []) next d) x.entries
   still event s =
       All-weaker (IsOfOneLoad judges first past now d) (IsOfOneLoad judges first (past ++ event ∷ []) next d) (one_load_more judges first past now d event next s) x.entries h.one_load
 
@@ -101,7 +101,7 @@ module _ (judges : Verdicts) (first : World) (past : List WorldEvent) (now next 
         };
       }
 
-  sound_taken : (piece : List ℕ) → x.core.phase ≡ Reading → 0 < counted x.bytes piece → Step judges now (Piece d piece) next → IsSound judges first (past ++ Piece d piece ∷ []) next d (after_step x piece (taken x.core))
+  sound_taken : (piece : List ℕ) → x.core.phase ≡ Reading → 0 < counted x.bytes piece → WorldStep judges now (Piece d piece) next → IsSound judges first (past ++ Piece d piece ∷ []) next d (after_step x piece (taken x.core))
   sound_taken piece e l s = record {
     place = h.place;
     published = h.published;
@@ -154,7 +154,7 @@ module _ (judges : Verdicts) (first : World) (past : List WorldEvent) (now next 
         };
       }
 
-  sound_failed : (why : Cause) (ended : Ended) → running x.core.phase ≡ 1 → Step judges now (Finish d ended) next → IsSound judges first (past ++ Finish d ended ∷ []) next d (after_step x [] (failed x.core why))
+  sound_failed : (why : Cause) (ended : Ended) → running x.core.phase ≡ 1 → WorldStep judges now (Finish d ended) next → IsSound judges first (past ++ Finish d ended ∷ []) next d (after_step x [] (failed x.core why))
   sound_failed why ended e s =
       let fails : risen x.core.fails ≡ x.core.fails + 1 = risen_is x.core.fails (omega (arith, h.loads, h.bound)) in record {
         place = h.place;
@@ -217,7 +217,7 @@ module _ (judges : Verdicts) (first : World) (past : List WorldEvent) (now next 
         load = tt;
       }
 
-  sound_posted : x.core.phase ≡ ToPost → Step judges now (Post d) next → IsSound judges first (past ++ Post d ∷ []) next d (after_step x [] (posted x.core))
+  sound_posted : x.core.phase ≡ ToPost → WorldStep judges now (Post d) next → IsSound judges first (past ++ Post d ∷ []) next d (after_step x [] (posted x.core))
   sound_posted e s =
       let ended : running x.core.phase ≡ 0 = ap running e in record {
         place = h.place;
@@ -235,16 +235,16 @@ module _ (judges : Verdicts) (first : World) (past : List WorldEvent) (now next 
       }
 
   -- an event that is refused leaves the dictionary
-  sound_refused : (event : WorldEvent) (y : WorldDict) → Step judges now event next → y ≡ x → (x.core.phase ≡ Reading → IsNoFinish d event × (with_piece d x.bytes event ≡ x.bytes)) → (x.core.phase ≡ Ready → IsNoPublish d event) → IsSound judges first (past ++ event ∷ []) next d y
+  sound_refused : (event : WorldEvent) (y : WorldDict) → WorldStep judges now event next → y ≡ x → (x.core.phase ≡ Reading → IsNoFinish d event × (with_piece d x.bytes event ≡ x.bytes)) → (x.core.phase ≡ Ready → IsNoPublish d event) → IsSound judges first (past ++ event ∷ []) next d y
   sound_refused event y s e reads waits =
       subst (IsSound judges first (past ++ event ∷ []) next d) (sym e) (sound_same judges first past now d x event next h s reads waits)
 
   -- the dictionary is as a row of the table says
-  sound_by : (event : WorldEvent) (taken : DictEvent) (piece : List ℕ) (answer : DictEffect) (y : WorldDict) (s : Stepped) → Takes x taken piece answer y → stepped x.core taken ≡ s → (answer ≡ s.effect → IsSound judges first (past ++ event ∷ []) next d (after_step x piece s)) → IsSound judges first (past ++ event ∷ []) next d y
+  sound_by : (event : WorldEvent) (taken : DictEvent) (piece : List ℕ) (answer : DictEffect) (y : WorldDict) (s : DictStepped) → TakesEvent x taken piece answer y → stepped x.core taken ≡ s → (answer ≡ s.effect → IsSound judges first (past ++ event ∷ []) next d (after_step x piece s)) → IsSound judges first (past ++ event ∷ []) next d y
   sound_by event taken piece answer y s t e k =
       subst (IsSound judges first (past ++ event ∷ []) next d) (sym (t.leaves ∙ ap (after_step x piece) e)) (k (t.answers ∙ ap (λ s. s.effect) e))
 
-  left_by : (taken : DictEvent) (piece : List ℕ) (answer : DictEffect) (y : WorldDict) → Takes x taken piece answer y → stepped x.core taken ≡ refused x.core → y ≡ x
+  left_by : (taken : DictEvent) (piece : List ℕ) (answer : DictEffect) (y : WorldDict) → TakesEvent x taken piece answer y → stepped x.core taken ≡ refused x.core → y ≡ x
   left_by taken piece answer y t e = t.leaves ∙ dict_refused x taken piece (ap (λ s. s.effect) e)
 
   pub sound_start : (y : WorldDict) (answer : DictEffect) → DictStep judges x (Start d) answer y → IsAnswered judges now d (Start d) answer next → IsSound judges first (past ++ Start d ∷ []) next d y
@@ -264,7 +264,7 @@ module _ (judges : Verdicts) (first : World) (past : List WorldEvent) (now next 
   pub sound_finish : (ended : Ended) (y : WorldDict) (answer : DictEffect) → DictStep judges x (Finish d ended) answer y → IsAnswered judges now d (Finish d ended) answer next → IsSound judges first (past ++ Finish d ended ∷ []) next d y
   sound_finish ended y answer t a = go t.0 t.1 t.2
     where
-      rows : FinishesIn x.core.phase judges x.definition x.bytes ended Rows → Takes x (core.Finish Rows) [] answer y → IsSound judges first (past ++ Finish d ended ∷ []) next d y
+      rows : FinishesIn x.core.phase judges x.definition x.bytes ended Rows → TakesEvent x (core.Finish Rows) [] answer y → IsSound judges first (past ++ Finish d ended ∷ []) next d y
       rows f u =
           elim (rows_row x.core) [
             | inl r ↦ (let k = rows_finish judges x.definition x.bytes ended (finishes_running x.core.phase judges x.definition x.bytes ended Rows (ap running r.0) f) in sound_by (Finish d ended) (core.Finish Rows) [] answer y (read x.core) u r.1 (λ e.
@@ -273,7 +273,7 @@ module _ (judges : Verdicts) (first : World) (past : List WorldEvent) (now next 
             | inr r ↦ sound_refused (Finish d ended) y (inl (answer, a)) (left_by (core.Finish Rows) [] answer y u r.0) (λ e. absurd (r.1 e)) (λ e. tt)
           ]
 
-      go : (ending : Ending) → FinishesIn x.core.phase judges x.definition x.bytes ended ending → Takes x (core.Finish ending) [] answer y → IsSound judges first (past ++ Finish d ended ∷ []) next d y
+      go : (ending : Ending) → FinishesIn x.core.phase judges x.definition x.bytes ended ending → TakesEvent x (core.Finish ending) [] answer y → IsSound judges first (past ++ Finish d ended ∷ []) next d y
       go Rows f u = rows f u
       go (Failed why) f u =
           elim (failed_row x.core why) [

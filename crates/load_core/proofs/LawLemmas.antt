@@ -18,7 +18,7 @@ use Rattle.load_core.specs.declared.world.WorldEntry.{WorldEntry}
 use Rattle.load_core.specs.declared.world.WorldDict.{WorldDict}
 use Rattle.load_core.specs.declared.world.WorldCaller.{WorldCaller}
 use Rattle.load_core.specs.declared.world.World.{World}
-use Rattle.load_core.specs.WorldSteps.{Verdicts, Finishes, FinishesIn, Takes, DictStep, IsAnswered, CallerEvents, Step, Run, last_number, dict_at, with_dict, caller_at, learnt, empty_world}
+use Rattle.load_core.specs.WorldSteps.{Verdicts, Finishes, FinishesIn, TakesEvent, DictStep, IsAnswered, CallerEvents, WorldStep, Run, last_number, dict_at, with_dict, caller_at, learnt, empty_world}
 use Rattle.load_core.specs.Laws.{entries_in, posted_in, posted_of, cause_in, answers_in, answers_of, EachDict, Grows, IsNumbered, IsRising, IsCounted, IsPosted, OneLoadEach, IsOfOneLoad, FailsFor, FailingKeeps, PublishedClears, RefusedKeeps, IsLengthAtEnter, LengthsAtEnter, NeverFall, NeverOlder, NeverBelowLearnt}
 use Rattle.load_core.specs.steps.WorldTurns.{IsShort}
 use Rattle.load_core.proofs.Callers.{last_number_is}
@@ -93,7 +93,7 @@ module _ (judges : Verdicts) where
   pub failing_keeps : FailingKeeps judges
   failing_keeps old new d ended a = go a.step.0 a.step.1 a.step.2
     where
-      go : (ending : Ending) → FinishesIn a.before.core.phase judges a.before.definition a.before.bytes ended ending → Takes a.before (core.Finish ending) [] effect.Failing a.after → (why : Cause) × Finishes judges a.before.definition a.before.bytes ended (Failed why) × FailsFor old new d why
+      go : (ending : Ending) → FinishesIn a.before.core.phase judges a.before.definition a.before.bytes ended ending → TakesEvent a.before (core.Finish ending) [] effect.Failing a.after → (why : Cause) × Finishes judges a.before.definition a.before.bytes ended (Failed why) × FailsFor old new d why
       go Rows f t =
           elim (rows_row a.before.core) [
             | inl r ↦ let k : effect.Failing ≡ effect.Ready = t.answers ∙ ap (λ s. s.effect) r.1 in cc
@@ -133,7 +133,7 @@ module _ (judges : Verdicts) where
   Adds now next c d least =
       (more : List ℕ) × (answers_of next c d ≡ answers_of now c d ++ more) × All (λ answer. least ≤ answer) more × (least ≤ floor_in (caller_at next c d))
 
-  event_adds : (first : World) (past : List WorldEvent) (now : World) (event : WorldEvent) (next : World) (c d least : ℕ) → IsSoundWorld judges first past now → Step judges now event next → least ≤ floor_in (caller_at now c d) → Adds now next c d least
+  event_adds : (first : World) (past : List WorldEvent) (now : World) (event : WorldEvent) (next : World) (c d least : ℕ) → IsSoundWorld judges first past now → WorldStep judges now event next → least ≤ floor_in (caller_at now c d) → Adds now next c d least
   event_adds first past now event next c d least w s l = go (caller_turn judges now event next s c d)
     where
       shown : IsShown now event next c d → Adds now next c d least

@@ -12,7 +12,7 @@ use Rattle.row_text.specs.declared.decode.DecodeFault.{DecodeFault}
 use Rattle.row_text.specs.declared.decode.DecodeFault.TheVariants as decode
 use Rattle.row_text.specs.Decoding.{Decodes}
 use Rattle.row_text.proofs.OneDecoding.{one-decoding}
-use Rattle.load_core.specs.FlatRows.{Decoded, HasKey, HasSmallKey, IsFirstLarge, IsRefusedFor, IsTable, key_bound}
+use Rattle.load_core.specs.FlatRows.{DecodedAs, HasKey, HasSmallKey, IsFirstLarge, HasNoTableFor, IsTable, key_bound}
 use Rattle.load_core.specs.WorldRows.{world_columns, row_verdicts}
 
 -- two rows with a large key, each behind rows with small ones, are one
@@ -41,7 +41,7 @@ told (decode.Bad bad) = cause.Row bad
 told decode.TooMany = cause.Rows
 told decode.NoMemory = cause.NoMemory
 
-module _ (decodes : Decoded) (one : (a b : Result (List (List Value)) DecodeFault) → decodes a → decodes b → a ≡ b) where
+module _ (decodes : DecodedAs) (one : (a b : Result (List (List Value)) DecodeFault) → decodes a → decodes b → a ≡ b) where
   -- a cause is a fault of decoding, or a large key
   abbrev Faulty : Cause → Type 0
   Faulty c = (fault : DecodeFault) × decodes (Err fault) × (c ≡ told fault)
@@ -49,7 +49,7 @@ module _ (decodes : Decoded) (one : (a b : Result (List (List Value)) DecodeFaul
   abbrev TooLarge : Cause → Type 0
   TooLarge c = (rows : List (List Value)) × decodes (Ok rows) × ((key : ℕ) × IsFirstLarge rows key × (c ≡ cause.Key key))
 
-  why : (c : Cause) → IsRefusedFor decodes c → Faulty c ⊎ TooLarge c
+  why : (c : Cause) → HasNoTableFor decodes c → Faulty c ⊎ TooLarge c
   why (cause.Row bad) p = inl (decode.Bad bad, p, refl)
   why cause.Rows p = inl (decode.TooMany, p, refl)
   why (cause.Key key) (rows, d, first) = inr (rows, d, (key, first, refl))
@@ -72,7 +72,7 @@ module _ (decodes : Decoded) (one : (a b : Result (List (List Value)) DecodeFaul
       let same : rows ≡ others = cc (one (Ok rows) (Ok others) t.decoded d) in
       absurd (omega (arith, first.large, none-large first.before first.row first.after key (subst (AllByRecursion HasSmallKey) (same ∙ first.parts) t.keys) first.here))
 
-  pub not-refused : (rows : List (List Value)) (c : Cause) → IsTable decodes rows → IsRefusedFor decodes c → ⊥
+  pub not-refused : (rows : List (List Value)) (c : Cause) → IsTable decodes rows → HasNoTableFor decodes c → ⊥
   not-refused rows c t p = refused-so rows c t (why c p)
 
   same-cause : (c d : Cause) → Faulty c ⊎ TooLarge c → Faulty d ⊎ TooLarge d → c ≡ d
@@ -86,7 +86,7 @@ module _ (decodes : Decoded) (one : (a b : Result (List (List Value)) DecodeFaul
       let keys = first-same first.before second.before first.row second.row first.after second.after key large (sym first.parts ∙ same ∙ second.parts) first.small second.small first.here first.large second.here second.large in
       is ∙ ap cause.Key keys ∙ sym are
 
-  pub one-cause : (c d : Cause) → IsRefusedFor decodes c → IsRefusedFor decodes d → c ≡ d
+  pub one-cause : (c d : Cause) → HasNoTableFor decodes c → HasNoTableFor decodes d → c ≡ d
   one-cause c d p q = same-cause c d (why c p) (why d q)
 
 -- one verdict on a text

@@ -13,31 +13,31 @@ use Rattle.load_core.specs.declared.dictionary.LastCause.TheVariants as last
 use Rattle.load_core.specs.declared.dictionary.Phase.{Phase}
 use Rattle.load_core.specs.declared.dictionary.Phase.TheVariants.{Idle, Reading, Ready, ToPost}
 use Rattle.load_core.specs.declared.world.WorldDict.{WorldDict}
-use Rattle.load_core.specs.DictSteps.{most_loads, Stepped, risen, refused, row, stepped}
+use Rattle.load_core.specs.DictSteps.{most_loads, DictStepped, risen, refused, row, stepped}
 use Rattle.load_core.specs.declared.world.Ended.{Ended}
 use Rattle.load_core.specs.declared.world.WorldEvent.TheVariants as event
 use Rattle.load_core.specs.WorldSteps.{Verdicts, Finishes, FinishesIn, DictStep, kept, dict_after}
 use Rattle.load_core.specs.Laws.{running}
 
 -- what each row leaves and answers
-abbrev pub begun : DictCore → Stepped
+abbrev pub begun : DictCore → DictStepped
 begun c = record { core = record c { loads = c.loads + 1; phase = Reading }; effect = effect.Begun (c.loads + 1) }
 
-abbrev pub taken : DictCore → Stepped
+abbrev pub taken : DictCore → DictStepped
 taken c = record { core = c; effect = effect.Taken }
 
-abbrev pub read : DictCore → Stepped
+abbrev pub read : DictCore → DictStepped
 read c = record { core = record c { phase = Ready }; effect = effect.Ready }
 
-abbrev pub failed : DictCore → Cause → Stepped
+abbrev pub failed : DictCore → Cause → DictStepped
 failed c cause =
     record { core = record c { fails = risen c.fails; phase = ToPost; cause = last.Of cause }; effect = effect.Failing }
 
-abbrev pub published : DictCore → Stepped
+abbrev pub published : DictCore → DictStepped
 published c =
     record { core = record c { published = risen c.published; oks = risen c.oks; phase = ToPost; cause = last.None }; effect = effect.Published (risen c.published) }
 
-abbrev pub posted : DictCore → Stepped
+abbrev pub posted : DictCore → DictStepped
 posted c = record { core = record c { phase = Idle }; effect = effect.Posted }
 
 -- a test on numbers with what it tells
@@ -173,7 +173,7 @@ core_refused c Post h =
     ]
 
 -- a dictionary after what its core makes of an event
-abbrev pub after_step : WorldDict → List ℕ → Stepped → WorldDict
+abbrev pub after_step : WorldDict → List ℕ → DictStepped → WorldDict
 after_step x piece s = record (kept x piece s.effect) { core = s.core }
 
 -- and it leaves the dictionary

@@ -8,7 +8,7 @@ use Rattle.load_core.specs.declared.world.WorldEvent.TheVariants.{Start, Piece, 
 use Rattle.load_core.specs.declared.world.WorldDict.{WorldDict}
 use Rattle.load_core.specs.declared.world.WorldCaller.{WorldCaller}
 use Rattle.load_core.specs.declared.world.World.{World}
-use Rattle.load_core.specs.WorldSteps.{Verdicts, DictStep, IsAnswered, Informs, DictEvents, CallerEvents, Step, Run, dict_at, caller_at, with_caller, entered, learnt}
+use Rattle.load_core.specs.WorldSteps.{Verdicts, DictStep, IsAnswered, Informs, DictEvents, CallerEvents, WorldStep, Run, dict_at, caller_at, with_caller, entered, learnt}
 use Rattle.load_core.specs.Laws.{with_piece, joined}
 use Rattle.load_core.proofs.Places.{dict_at-with_same, dict_at-with_other, caller_at-with_same, caller_at-with_other_dict, caller_at-with_other}
 
@@ -18,8 +18,8 @@ joined_more d bytes [] event = refl
 joined_more d bytes (e ∷ events) event = joined_more d (with_piece d bytes e) events event
 
 module _ (judges : Verdicts) where
-  pub run_more : (old : World) (events : List WorldEvent) (now : World) (event : WorldEvent) (next : World) → Run judges old events now → Step judges now event next → Run judges old (events ++ event ∷ []) next
-  run_more old [] now event next r s = (next, subst (λ (w : World). Step judges w event next) r s, refl)
+  pub run_more : (old : World) (events : List WorldEvent) (now : World) (event : WorldEvent) (next : World) → Run judges old events now → WorldStep judges now event next → Run judges old (events ++ event ∷ []) next
+  run_more old [] now event next r s = (next, subst (λ (w : World). WorldStep judges w event next) r s, refl)
   run_more old (e ∷ events) now event next r s = (r.0, r.1, run_more r.0 events now event next r.2 s)
 
   -- an event of the dictionary at one place leaves the others, and steps that one
@@ -121,7 +121,7 @@ module _ (judges : Verdicts) where
   dict_event_callers old new d event (inl h) c e = ap (λ (w : World). caller_at w c e) h.1.rest
   dict_event_callers old new d event (inr h) c e = ap (λ (w : World). caller_at w c e) h.1
 
-  pub caller_turn : (now : World) (event : WorldEvent) (next : World) → Step judges now event next → (c d : ℕ) → CallerTurn now event next c d
+  pub caller_turn : (now : World) (event : WorldEvent) (next : World) → WorldStep judges now event next → (c d : ℕ) → CallerTurn now event next c d
   caller_turn now (Start e) next s c d = inl (dict_event_callers now next e (Start e) s c d)
   caller_turn now (Piece e piece) next s c d = inl (dict_event_callers now next e (Piece e piece) s c d)
   caller_turn now (Finish e ended) next s c d = inl (dict_event_callers now next e (Finish e ended) s c d)

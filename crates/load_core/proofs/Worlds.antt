@@ -15,7 +15,7 @@ use Rattle.load_core.specs.declared.world.WorldDict.{WorldDict}
 use Rattle.load_core.specs.declared.world.WorldCaller.{WorldCaller}
 use Rattle.load_core.specs.declared.world.World.{World}
 use Rattle.load_core.specs.DictSteps.{stepped}
-use Rattle.load_core.specs.WorldSteps.{Verdicts, Takes, DictStep, DictEvents, CallerEvents, Step, Run, kept, dict_at, caller_at, entered, learnt, empty_dict, empty_caller, empty_world}
+use Rattle.load_core.specs.WorldSteps.{Verdicts, TakesEvent, DictStep, DictEvents, CallerEvents, WorldStep, Run, kept, dict_at, caller_at, entered, learnt, empty_dict, empty_caller, empty_world}
 use Rattle.load_core.specs.Laws.{with_piece, entries_in, entries_of}
 use mathlib.Core.List.{IsPrefix}
 use Rattle.load_core.proofs.Callers.{IsInformed, informed_same, informed_told, informed_shown, last_number_is}
@@ -34,7 +34,7 @@ kept_grows x piece (effect.Published number) = (record { number = number; bytes 
 kept_grows x piece effect.Posted = ([], append-nil x.entries)
 kept_grows x piece effect.Refused = ([], append-nil x.entries)
 
-takes_grows : (x : WorldDict) (event : DictEvent) (piece : List ℕ) (answer : DictEffect) (y : WorldDict) → Takes x event piece answer y → IsPrefix x.entries y.entries
+takes_grows : (x : WorldDict) (event : DictEvent) (piece : List ℕ) (answer : DictEffect) (y : WorldDict) → TakesEvent x event piece answer y → IsPrefix x.entries y.entries
 takes_grows x event piece answer y t =
     subst (λ (z : WorldDict). IsPrefix x.entries z.entries) (sym t.leaves) (kept_grows x piece (stepped x.core event).effect)
 
@@ -69,7 +69,7 @@ module _ (judges : Verdicts) where
   ]
 
   -- no event takes an entry away
-  pub event_grows : (now : World) (event : WorldEvent) (next : World) → Step judges now event next → (d : ℕ) → IsPrefix (entries_of now d) (entries_of next d)
+  pub event_grows : (now : World) (event : WorldEvent) (next : World) → WorldStep judges now event next → (d : ℕ) → IsPrefix (entries_of now d) (entries_of next d)
   event_grows now (Start e) next s d = dict_event_grows now next e (Start e) s d
   event_grows now (Piece e piece) next s d = dict_event_grows now next e (Piece e piece) s d
   event_grows now (Finish e ended) next s d = dict_event_grows now next e (Finish e ended) s d
@@ -86,7 +86,7 @@ module _ (judges : Verdicts) where
       let more = run_grows r.0 es end r.2 d in
       (one.0 ++ more.0, sym (append_assoc (entries_of now d) one.0 more.0) ∙ ap (λ xs. xs ++ more.0) one.1 ∙ more.1)
 
-  longer : (now : World) (event : WorldEvent) (next : World) → Step judges now event next → (d : ℕ) → length (entries_of now d) ≤ length (entries_of next d)
+  longer : (now : World) (event : WorldEvent) (next : World) → WorldStep judges now event next → (d : ℕ) → length (entries_of now d) ≤ length (entries_of next d)
   longer now event next s d =
       let g = event_grows now event next s d in
       omega (arith, ap length g.1, length-append (entries_of now d) g.0)
@@ -98,7 +98,7 @@ module _ (judges : Verdicts) (first : World) where
     pub callers : (c d : ℕ) (u : WorldCaller) → caller_at now c d ≡ Some u → IsInformed judges first past now c d u
 
 module _ (judges : Verdicts) (first : World) (past : List WorldEvent) (now next : World) (w : IsSoundWorld judges first past now) where
-  dict_next : (event : WorldEvent) → Step judges now event next → (d : ℕ) (z : WorldDict) → dict_at next d ≡ Some z → IsSound judges first (past ++ event ∷ []) next d z
+  dict_next : (event : WorldEvent) → WorldStep judges now event next → (d : ℕ) (z : WorldDict) → dict_at next d ≡ Some z → IsSound judges first (past ++ event ∷ []) next d z
   dict_next (Start e) s d z found =
       at_dict judges now next (λ n. Start n) e d z (λ event y. IsSound judges first (past ++ event ∷ []) next d y)
       (λ x f n. sound_same judges first past now d x (Start e) next (w.dicts d x f) s (λ q. (tt, refl)) (λ q. tt))
@@ -124,7 +124,7 @@ module _ (judges : Verdicts) (first : World) (past : List WorldEvent) (now next 
   dict_next (Learn a b) s d z found =
       sound_same judges first past now d z (Learn a b) next (w.dicts d z (sym (caller_event_dicts now next a b learnt s d) ∙ found)) s (λ q. (tt, refl)) (λ q. tt)
 
-  caller_next : (event : WorldEvent) → Step judges now event next → (c d : ℕ) (v : WorldCaller) → caller_at next c d ≡ Some v → IsInformed judges first (past ++ event ∷ []) next c d v
+  caller_next : (event : WorldEvent) → WorldStep judges now event next → (c d : ℕ) (v : WorldCaller) → caller_at next c d ≡ Some v → IsInformed judges first (past ++ event ∷ []) next c d v
   caller_next event s c d v found = go (caller_turn judges now event next s c d)
     where
       l : length (entries_of now d) ≤ length (entries_of next d)
@@ -137,7 +137,7 @@ module _ (judges : Verdicts) (first : World) (past : List WorldEvent) (now next 
           let number = last_number_is t.dictionary.entries (w.dicts d t.dictionary t.found).numbers in
           subst (IsInformed judges first (past ++ event ∷ []) next c d) is
           (subst (λ (e : WorldEvent). IsInformed judges first (past ++ e ∷ []) next c d (entered t.caller t.dictionary)) (sym t.event_is)
-          (informed_shown judges first past now next c d t.caller t.dictionary w.run t.found_caller (w.callers c d t.caller t.found_caller) (subst (λ (e : WorldEvent). Step judges now e next) t.event_is s) l (number ∙ ap length (sym list))))
+          (informed_shown judges first past now next c d t.caller t.dictionary w.run t.found_caller (w.callers c d t.caller t.found_caller) (subst (λ (e : WorldEvent). WorldStep judges now e next) t.event_is s) l (number ∙ ap length (sym list))))
 
       told : IsTold now next c d → IsInformed judges first (past ++ event ∷ []) next c d v
       told t =
@@ -151,7 +151,7 @@ module _ (judges : Verdicts) (first : World) (past : List WorldEvent) (now next 
       go (inr (inl t)) = shown t
       go (inr (inr t)) = told t
 
-  pub sound_next : (event : WorldEvent) → Step judges now event next → IsSoundWorld judges first (past ++ event ∷ []) next
+  pub sound_next : (event : WorldEvent) → WorldStep judges now event next → IsSoundWorld judges first (past ++ event ∷ []) next
   sound_next event s = record {
     run = run_more judges first past now event next w.run s;
     dicts = dict_next event s;

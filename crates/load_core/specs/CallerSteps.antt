@@ -7,14 +7,14 @@ use Rattle.load_core.specs.declared.caller.CallerEffect.{CallerEffect}
 use Rattle.load_core.specs.declared.caller.CallerEffect.TheVariants.{Kept, Older}
 
 -- the number that an event brings
-abbrev pub number_of : CallerEvent → ℕ
-number_of (Entered number) = number
-number_of (Told number) = number
+abbrev pub told_number : CallerEvent → ℕ
+told_number (Entered number) = number
+told_number (Told number) = number
 
 -- the floor is the greater of itself and the number
 abbrev pub raised : CallerCore → CallerEvent → CallerCore
-raised c event = record { floor = max c.floor (number_of event) }
+raised c event = record { floor = max c.floor (told_number event) }
 
 -- how the number stands to the floor before it
 abbrev pub effect_of : CallerCore → CallerEvent → CallerEffect
-effect_of c event = if nat_lt (number_of event) c.floor then Older c.floor else Kept
+effect_of c event = if nat_lt (told_number event) c.floor then Older c.floor else Kept

@@ -11,7 +11,7 @@ use Rattle.load_core.specs.declared.dictionary.Phase.TheVariants.{Idle, Reading,
 use Rattle.load_core.specs.declared.dictionary.LastCause.TheVariants as last
 
 -- what an event leaves, and how it is answered
-pub record Stepped : Type 0 where
+pub record DictStepped : Type 0 where
   pub core : DictCore
   pub effect : DictEffect
 
@@ -29,11 +29,11 @@ abbrev pub most_loads : ℕ
 most_loads = 9223372036854775807
 
 -- the event isn't one for this phase
-abbrev pub refused : DictCore → Stepped
+abbrev pub refused : DictCore → DictStepped
 refused c = record { core = c; effect = effect.Refused }
 
 -- the table, a row for each pair of phase and event that is taken
-abbrev pub row : Phase → DictEvent → DictCore → Stepped
+abbrev pub row : Phase → DictEvent → DictCore → DictStepped
 row Idle Start c =
     if nat_lt c.loads most_loads
     then record { core = record c { loads = c.loads + 1; phase = Reading }; effect = effect.Begun (c.loads + 1) }
@@ -58,5 +58,5 @@ row ToPost Post c =
 -- any other pair
 row _ _ c = refused c
 
-abbrev pub stepped : DictCore → DictEvent → Stepped
+abbrev pub stepped : DictCore → DictEvent → DictStepped
 stepped c event = row c.phase event c

@@ -11,8 +11,8 @@ use Rattle.load_core.specs.declared.flat.TableFault.{TableFault}
 use Rattle.load_core.specs.declared.flat.TableFault.TheVariants as table
 
 -- what a text decodes to, as a relation to its answer
-abbrev pub Decoded : Type 1
-Decoded = Result (List (List Value)) DecodeFault → Type 0
+abbrev pub DecodedAs : Type 1
+DecodedAs = Result (List (List Value)) DecodeFault → Type 0
 
 -- the least number that is no key of a flat layout of the default size
 abbrev pub key_bound : ℕ
@@ -36,16 +36,16 @@ pub record IsFirstLarge (rows : List (List Value)) (key : ℕ) : Type 0 where
   pub large : key_bound ≤ key
 
 -- the rows that a text decodes to, each with a key that the layout takes
-pub record IsTable (decodes : Decoded) (rows : List (List Value)) : Type 0 where
+pub record IsTable (decodes : DecodedAs) (rows : List (List Value)) : Type 0 where
   pub decoded : decodes (Ok rows)
   pub keys : AllByRecursion HasSmallKey rows
 
 -- why there is no table: the fault of decoding, or else the first large key
-abbrev pub IsRefusedFor : Decoded → Cause → Type 0
-IsRefusedFor decodes (FirstBadRow bad) = decodes (Err (decode.Bad bad))
-IsRefusedFor decodes TooManyRows = decodes (Err decode.TooMany)
-IsRefusedFor decodes (LargeKey key) = (rows : List (List Value)) × decodes (Ok rows) × IsFirstLarge rows key
-IsRefusedFor decodes cause = ⊥
+abbrev pub HasNoTableFor : DecodedAs → Cause → Type 0
+HasNoTableFor decodes (FirstBadRow bad) = decodes (Err (decode.Bad bad))
+HasNoTableFor decodes TooManyRows = decodes (Err decode.TooMany)
+HasNoTableFor decodes (LargeKey key) = (rows : List (List Value)) × decodes (Ok rows) × IsFirstLarge rows key
+HasNoTableFor decodes cause = ⊥
 
 -- the rows are a table, or else the first large key is why there is none
 abbrev pub MakesOf : List (List Value) → Result (List (List Value)) TableFault → Type 0

@@ -23,7 +23,7 @@ use Rattle.load_core.specs.declared.world.WorldDict.{WorldDict}
 use Rattle.load_core.specs.declared.world.WorldCaller.{WorldCaller}
 use Rattle.load_core.specs.declared.world.World.{World}
 use Rattle.load_core.specs.CallerSteps.{effect_of}
-use Rattle.load_core.specs.WorldSteps.{Verdicts, Finishes, IsAnswered, Step, Run, dict_at, caller_at, last_number}
+use Rattle.load_core.specs.WorldSteps.{Verdicts, Finishes, IsAnswered, WorldStep, Run, dict_at, caller_at, last_number}
 use Rattle.load_core.specs.WorldSteps.{most_bytes, empty_world}
 
 -- the entries of the dictionary at a place, which are none where there is no dictionary
@@ -123,7 +123,7 @@ pub record IsLengthAtEnter (judges : Verdicts) (first : World) (events : List Wo
   pub shown : World
   pub order : events ≡ earlier ++ Enter c d ∷ later
   pub before : Run judges first earlier unshown
-  pub enter : Step judges unshown (Enter c d) shown
+  pub enter : WorldStep judges unshown (Enter c d) shown
   pub place : k ≡ length (answers_of unshown c d)
   pub is_length : answer ≡ length (entries_of unshown d)
   pub after : Run judges shown later now
@@ -212,6 +212,6 @@ abbrev pub NeverBelowLearnt : Verdicts → Type 0
 NeverBelowLearnt judges =
     InEachRun judges (λ first early untold.
     (c d : ℕ) (late : List WorldEvent) (told now : World) →
-    Step judges untold (Learn c d) told → Run judges told late now →
+    WorldStep judges untold (Learn c d) told → Run judges told late now →
     (later : List ℕ) × (answers_of now c d ≡ answers_of told c d ++ later)
     × All (λ answer. posted_of untold d ≤ answer) later)

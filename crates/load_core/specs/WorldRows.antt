@@ -8,7 +8,7 @@ use Rattle.dict_value.specs.declared.value.Value.{Value}
 use Rattle.dict_value.specs.declared.value.Value.TheVariants.{S}
 use Rattle.dict_value.specs.Values.{reading}
 use Rattle.row_text.specs.Decoding.{Decodes, Reader}
-use Rattle.load_core.specs.FlatRows.{IsRefusedFor, IsTable}
+use Rattle.load_core.specs.FlatRows.{HasNoTableFor, IsTable}
 
 abbrev pub key_column : Reader
 key_column seen = reading (record { base = UInt64; nullable = false }) seen
@@ -24,4 +24,4 @@ world_columns = key_column ∷ text_column ∷ []
 -- what the judge says of a text, whatever the dictionary's number
 abbrev pub row_verdicts : ℕ → List ℕ → Option Cause → Type 0
 row_verdicts number text None = (rows : List (List Value)) × IsTable (Decodes Tab world_columns text) rows
-row_verdicts number text (Some cause) = IsRefusedFor (Decodes Tab world_columns text) cause
+row_verdicts number text (Some cause) = HasNoTableFor (Decodes Tab world_columns text) cause

@@ -76,20 +76,20 @@ dict_after x event piece =
     record (kept x piece (stepped x.core event).effect) { core = (stepped x.core event).core }
 
 -- the core takes this event, answers so, and leaves the dictionary so
-pub record Takes (x : WorldDict) (event : DictEvent) (piece : List ℕ) (answer : DictEffect) (y : WorldDict)
+pub record TakesEvent (x : WorldDict) (event : DictEvent) (piece : List ℕ) (answer : DictEffect) (y : WorldDict)
     : Type 0 where
   pub answers : answer ≡ (stepped x.core event).effect
   pub leaves : y ≡ dict_after x event piece
 
 -- what an event of the world makes of its dictionary x, and how x's core answers
 abbrev pub DictStep : Verdicts → WorldDict → WorldEvent → DictEffect → WorldDict → Type 0
-DictStep judges x (Start d) answer y = Takes x core.Start [] answer y
-DictStep judges x (Piece d piece) answer y = Takes x (core.Piece (counted x.bytes piece)) piece answer y
+DictStep judges x (Start d) answer y = TakesEvent x core.Start [] answer y
+DictStep judges x (Piece d piece) answer y = TakesEvent x (core.Piece (counted x.bytes piece)) piece answer y
 DictStep judges x (Finish d ended) answer y =
     (ending : Ending) × FinishesIn x.core.phase judges x.definition x.bytes ended ending
-    × Takes x (core.Finish ending) [] answer y
-DictStep judges x (Publish d) answer y = Takes x core.Publish [] answer y
-DictStep judges x (Post d) answer y = Takes x core.Post [] answer y
+    × TakesEvent x (core.Finish ending) [] answer y
+DictStep judges x (Publish d) answer y = TakesEvent x core.Publish [] answer y
+DictStep judges x (Post d) answer y = TakesEvent x core.Post [] answer y
 -- the others aren't events of a dictionary
 DictStep judges x (Enter c d) answer y = ⊥
 DictStep judges x (Learn c d) answer y = ⊥
@@ -158,19 +158,19 @@ CallerEvents old c d becomes new =
     Informs old c d becomes new ⊎ (((caller_at old c d ≡ None) ⊎ (dict_at old d ≡ None)) × (new ≡ old))
 
 -- from old, the event may lead to new
-abbrev pub Step : Verdicts → World → WorldEvent → World → Type 0
-Step judges old (Start d) new = DictEvents judges old d (Start d) new
-Step judges old (Piece d piece) new = DictEvents judges old d (Piece d piece) new
-Step judges old (Finish d ended) new = DictEvents judges old d (Finish d ended) new
-Step judges old (Publish d) new = DictEvents judges old d (Publish d) new
-Step judges old (Post d) new = DictEvents judges old d (Post d) new
-Step judges old (Enter c d) new = CallerEvents old c d entered new
-Step judges old (Learn c d) new = CallerEvents old c d learnt new
+abbrev pub WorldStep : Verdicts → World → WorldEvent → World → Type 0
+WorldStep judges old (Start d) new = DictEvents judges old d (Start d) new
+WorldStep judges old (Piece d piece) new = DictEvents judges old d (Piece d piece) new
+WorldStep judges old (Finish d ended) new = DictEvents judges old d (Finish d ended) new
+WorldStep judges old (Publish d) new = DictEvents judges old d (Publish d) new
+WorldStep judges old (Post d) new = DictEvents judges old d (Post d) new
+WorldStep judges old (Enter c d) new = CallerEvents old c d entered new
+WorldStep judges old (Learn c d) new = CallerEvents old c d learnt new
 
 -- from old, the events may lead to new, one after another
 abbrev pub Run : Verdicts → World → List WorldEvent → World → Type 0
 Run judges old [] new = new ≡ old
-Run judges old (event ∷ events) new = (mid : World) × Step judges old event mid × Run judges mid events new
+Run judges old (event ∷ events) new = (mid : World) × WorldStep judges old event mid × Run judges mid events new
 
 -- a dictionary that has published nothing, with the definition of this number
 abbrev pub empty_dict : ℕ → WorldDict

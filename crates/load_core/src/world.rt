@@ -3,7 +3,7 @@ ghost use Rattle.std.specs.Prelude.{◌≡◌, [], ◌∷◌, ◌++◌, ◌≤�
 ghost use Rattle.std.specs.Prelude.{slice_get, slice_set};
 ghost use Rattle.std.specs.List.{range_with_len};
 ghost use Rattle.load_core.specs.WorldRows.{row_verdicts};
-ghost use Rattle.load_core.specs.WorldSteps.{Judged, Finishes, Run, Step, counted, dict_after, dict_at, with_dict};
+ghost use Rattle.load_core.specs.WorldSteps.{Judged, Finishes, Run, WorldStep, counted, dict_after, dict_at, with_dict};
 ghost use Rattle.load_core.specs.WorldSteps.{caller_at, with_caller, known_to, last_number, knowing, empty_dict};
 ghost use Rattle.load_core.specs.WorldSteps.{empty_caller, empty_world, most_bytes};
 ghost use Rattle.load_core.specs.steps.WorldTurns.{DictTurn, InformsAt, IsShort, KnowsAt, TurnsAt};
@@ -331,7 +331,7 @@ impl World {
     /// One event.
     fn after(self, alloc: Global, event: &WorldEvent) -> Result<World, NoMemory>
         requires { All IsShort self.dictionaries }
-        ensures { IfOk result (Step row_verdicts self event.now) }
+        ensures { IfOk result (WorldStep row_verdicts self event.now) }
     {
         match event {
             WorldEvent::Start(d)

@@ -8,9 +8,9 @@ use Rattle.csv.specs.declared.parser.State.TheVariants as st
 use Rattle.csv.proofs.RoundTrip.{record-same, start-same}
 use Rattle.dict_value.specs.declared.value.Field.{Field}
 use Rattle.dict_value.specs.declared.value.Field.TheVariants as field
-use Rattle.row_text.specs.declared.letters.TheConstants.{CARRIAGE_RETURN, DOUBLE_QUOTE, LINE_FEED}
+use Rattle.dict_value.specs.declared.letters.TheConstants.{CARRIAGE_RETURN, DOUBLE_QUOTE, LINE_FEED}
 use Rattle.row_text.specs.CsvRow.{IsCsvRow, IsRecord}
-use Rattle.row_text.specs.declared.letters.TheConstants.{COMMA}
+use Rattle.dict_value.specs.declared.letters.TheConstants.{COMMA}
 use Rattle.row_text.specs.steps.CsvSteps.{IsPlainText}
 use Rattle.row_text.proofs.Reached.{suffix}
 

@@ -15,7 +15,7 @@ use Rattle.dict_value.specs.declared.value.Field.TheVariants as field
 use Rattle.row_text.specs.declared.cutter.CutRule.TheVariants as rule
 use Rattle.row_text.specs.Cutting.{IsOpen, IsWhole, keeps_open}
 use Rattle.row_text.specs.CsvRow.{BeginsWithMark, IsCsvRow, csv_field, csv_fields, csv_line, csv_text}
-use Rattle.row_text.specs.declared.letters.TheConstants.{DOUBLE_QUOTE, LINE_FEED}
+use Rattle.dict_value.specs.declared.letters.TheConstants.{DOUBLE_QUOTE, LINE_FEED}
 use Rattle.row_text.proofs.CutSteps.{keeps_open-nil, keeps_open-push, open-nil, open-push}
 
 -- these bytes of a row end between quotes

@@ -4,7 +4,7 @@ use Rattle.std.specs.List.{flat_map}
 use Rattle.std.proofs.lemmas.List.{append-nil}
 use Rattle.std.proofs.lemmas.List.Concat.{flat_map-append}
 use Rattle.row_text.specs.declared.cutter.CutRule.{CutRule}
-use Rattle.row_text.specs.declared.letters.TheConstants.{LINE_FEED}
+use Rattle.dict_value.specs.declared.letters.TheConstants.{LINE_FEED}
 use Rattle.row_text.specs.Cutting.{Cuts, IsOpen, IsWhole, ended}
 use Rattle.row_text.proofs.CutSteps.{open-nil}
 use Rattle.row_text.proofs.MarkLists.{all-append}

@@ -7,7 +7,7 @@ use Rattle.std.proofs.lemmas.List.Sums.{sum_by_push}
 use Rattle.std.proofs.lemmas.Bool.{cases_Bool, eq-eqb, ne_eqb, cases_eq}
 use Rattle.row_text.specs.declared.cutter.CutRule.{CutRule}
 use Rattle.row_text.specs.declared.cutter.CutRule.TheVariants as rule
-use Rattle.row_text.specs.declared.letters.TheConstants.{BACKSLASH, DOUBLE_QUOTE, LINE_FEED}
+use Rattle.dict_value.specs.declared.letters.TheConstants.{BACKSLASH, DOUBLE_QUOTE, LINE_FEED}
 use Rattle.row_text.specs.Cutting.{IsOpen, is_odd, keeps_open}
 
 -- whether a line feed behind this byte is kept, where one before it was

@@ -11,7 +11,7 @@ use Rattle.dict_value.specs.declared.value.Field.{Field}
 use Rattle.dict_value.specs.declared.value.Format.{Format}
 use Rattle.dict_value.specs.declared.value.Value.{Value}
 use Rattle.row_text.specs.declared.cutter.CutRule.{CutRule}
-use Rattle.row_text.specs.declared.letters.TheConstants.{LINE_FEED}
+use Rattle.dict_value.specs.declared.letters.TheConstants.{LINE_FEED}
 use Rattle.row_text.specs.Cutting.{IsOpen, IsWhole, ended, keeps_open}
 use Rattle.row_text.specs.Tables.{AreLines, last_line}
 use Rattle.row_text.specs.Decoding.{AreTypedRows, Reader, Decodes, FillsColumns, IsTypedRow, LineGives, StandsBehind, Unread, Unvalued, is_row_line, rule_of}

@@ -20,8 +20,9 @@ use Rattle.row_text.specs.declared.cutter.CutRule.{CutRule}
 use Rattle.row_text.specs.declared.decode.DecodeFault.{DecodeFault}
 use Rattle.row_text.specs.declared.decode.DecodeFault.TheVariants as decode
 use Rattle.dict_value.specs.declared.value.TheConstants.{MOST_ROWS}
-use Rattle.row_text.specs.declared.letters.TheConstants.{BACKSLASH, LETTER_X}
-use Rattle.row_text.specs.Marks.{Mark, bare, escaped, hex, IsBadEscape, IsMark, Spells, hex_digit, spelled}
+use Rattle.dict_value.specs.declared.letters.TheConstants.{BACKSLASH, LETTER_X}
+use Rattle.dict_value.specs.Escapes.{hex_digit}
+use Rattle.row_text.specs.Marks.{Mark, bare, escaped, hex, IsBadEscape, IsMark, Spells, spelled}
 use Rattle.row_text.specs.TabRow.{HasBadEscape, TabAnswers, ends_in_return, fields_of}
 use Rattle.row_text.specs.CsvRow.{CsvAnswers}
 use Rattle.row_text.specs.Tables.{AreLines}

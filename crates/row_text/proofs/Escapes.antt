@@ -1,7 +1,8 @@
 -- The escape that a text begins with.
 use Rattle.std.proofs.Common.{◌≡◌, ◌≢◌, ◌≤◌, ◌+◌, ◌*◌, ◌∷◌, [], ℕ, List, length, get_or, refl, arith, Some}
-use Rattle.row_text.specs.declared.letters.TheConstants.{BACKSLASH, LETTER_X}
-use Rattle.row_text.specs.Marks.{escaped, hex, hex_digit, unescaped}
+use Rattle.dict_value.specs.declared.letters.TheConstants.{BACKSLASH, LETTER_X}
+use Rattle.dict_value.specs.Escapes.{hex_digit, unescaped}
+use Rattle.row_text.specs.Marks.{escaped, hex}
 use Rattle.row_text.specs.steps.TabSteps.{EscapeOf}
 
 pub escape-one : (text : List ℕ) → get_or text 0 0 ≡ BACKSLASH → 2 ≤ length text → get_or text 1 0 ≢ LETTER_X → EscapeOf text (Some (unescaped (get_or text 1 0), 2))

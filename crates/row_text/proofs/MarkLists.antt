@@ -4,8 +4,8 @@ use Rattle.std.specs.List.{AllByRecursion, flat_map}
 use Rattle.std.proofs.lemmas.List.{append-nil}
 use Rattle.std.proofs.lemmas.Bool.{ne_eqb}
 use Rattle.std.proofs.lemmas.List.Concat.{flat_map-append}
-use Rattle.row_text.specs.declared.letters.TheConstants.{TAB, CARRIAGE_RETURN}
-use Rattle.row_text.specs.Marks.{Mark, bare, IsMark, Spells, meant, spelled}
+use Rattle.dict_value.specs.declared.letters.TheConstants.{TAB, CARRIAGE_RETURN}
+use Rattle.row_text.specs.Marks.{Mark, bare, IsMark, Spells, meant_byte, spelled}
 use Rattle.row_text.specs.TabRow.{ends_in_return, is_tab}
 use Rattle.row_text.specs.steps.TabSteps.{IsPlain}
 
@@ -49,7 +49,7 @@ pub run-spelled : (run : List ℕ) → flat_map spelled (map bare run) ≡ run
 run-spelled [] = refl
 run-spelled (b ∷ run) = ap (λ (t : List ℕ). b ∷ t) (run-spelled run)
 
-pub run-meant : (run : List ℕ) → map meant (map bare run) ≡ run
+pub run-meant : (run : List ℕ) → map meant_byte (map bare run) ≡ run
 run-meant [] = refl
 run-meant (b ∷ run) = ap (λ (t : List ℕ). b ∷ t) (run-meant run)
 

@@ -4,7 +4,7 @@ use Rattle.std.specs.List.{AllByRecursion, flat_map}
 use Rattle.std.proofs.lemmas.List.{append-nil, drop_at, get_or_append_left, get_or_at, length-append, take-append-le, take_at}
 use Rattle.std.proofs.lemmas.Bool.{both_ways, cases_order}
 use Rattle.row_text.specs.declared.cutter.CutRule.{CutRule}
-use Rattle.row_text.specs.declared.letters.TheConstants.{LINE_FEED}
+use Rattle.dict_value.specs.declared.letters.TheConstants.{LINE_FEED}
 use Rattle.row_text.specs.Cutting.{Cuts, IsOpen, IsWhole, ended, keeps_open}
 
 -- a row end lies in no part of a text that has none

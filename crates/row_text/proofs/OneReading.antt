@@ -6,8 +6,9 @@ use Rattle.std.proofs.lemmas.Bool.{both_ways}
 use Rattle.dict_value.specs.declared.value.Field.{Field}
 use Rattle.dict_value.specs.declared.fault.LineFault.{LineFault}
 use Rattle.dict_value.specs.declared.fault.LineFault.TheVariants as fault
-use Rattle.row_text.specs.declared.letters.TheConstants.{BACKSLASH, LETTER_X}
-use Rattle.row_text.specs.Marks.{Mark, bare, escaped, hex, IsBadEscape, IsMark, Spells, begins_with_digits, spelled}
+use Rattle.dict_value.specs.declared.letters.TheConstants.{BACKSLASH, LETTER_X}
+use Rattle.dict_value.specs.Escapes.{begins_with_digits}
+use Rattle.row_text.specs.Marks.{Mark, bare, escaped, hex, IsBadEscape, IsMark, Spells, spelled}
 use Rattle.dict_value.specs.Memory.{UnlessNoMemory}
 use Rattle.row_text.specs.TabRow.{TabAnswers, IsTabRow, ends_in_return, fields_of}
 

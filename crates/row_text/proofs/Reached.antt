@@ -10,11 +10,11 @@ use Rattle.std.proofs.lemmas.List.Splits.{slice_split_at, slice_split_none}
 use Rattle.dict_value.specs.declared.value.Field.{Field}
 use Rattle.dict_value.specs.declared.fault.LineFault.{LineFault}
 use Rattle.dict_value.specs.declared.fault.LineFault.TheVariants as fault
-use Rattle.row_text.specs.declared.letters.TheConstants.{CARRIAGE_RETURN, TAB}
-use Rattle.row_text.specs.Marks.{Mark, bare, IsBadEscape, Spells, meant}
+use Rattle.dict_value.specs.declared.letters.TheConstants.{CARRIAGE_RETURN, TAB}
+use Rattle.row_text.specs.Marks.{Mark, bare, IsBadEscape, Spells, meant_byte}
 use Rattle.dict_value.specs.Memory.{UnlessNoMemory}
 use Rattle.row_text.specs.TabRow.{TabAnswers, IsTabRow, ends_in_return, field_of, fields_of, is_tab}
-use Rattle.row_text.specs.steps.TabSteps.{FieldOf, HasRead, IsPlain, Reaches, ReadsField}
+use Rattle.row_text.specs.steps.TabSteps.{FieldOf, HasFieldsBefore, IsPlain, Reaches, ReadsField}
 use Rattle.row_text.proofs.MarkLists.{all-append, ends-append, ends-append_cons, ends-append_true, run-ends, run-meant, run-spelled, run-untabbed, run-valid, spells-append, spells-nil}
 
 pub reach-start : (rest : List ℕ) → Reaches rest 0 []
@@ -37,8 +37,8 @@ reach-run rest size within plain = record {
 }
 
 -- the text behind a run
-pub meant-run : (text run : List ℕ) (ms : List Mark) → text ≡ map meant ms → text ++ run ≡ map meant (ms ++ map bare run)
-meant-run text run ms e = ap (λ (t : List ℕ). t ++ run) e ∙ ap (λ (t : List ℕ). map meant ms ++ t) (sym (run-meant run)) ∙ sym (map-append meant ms (map bare run))
+pub meant-run : (text run : List ℕ) (ms : List Mark) → text ≡ map meant_byte ms → text ++ run ≡ map meant_byte (ms ++ map bare run)
+meant-run text run ms e = ap (λ (t : List ℕ). t ++ run) e ∙ ap (λ (t : List ℕ). map meant_byte ms ++ t) (sym (run-meant run)) ∙ sym (map-append meant_byte ms (map bare run))
 
 -- whether marks and a run end in a carriage return
 pub returns-run : (run : List ℕ) (ms : List Mark) (k : ℕ) → length run ≡ suc k → get_or run k 0 ≡ CARRIAGE_RETURN → ends_in_return (ms ++ map bare run) ≡ true
@@ -49,7 +49,7 @@ ends-run [] ms p last = rw (append-nil ms) p
 ends-run (b ∷ run) ms p last = ends-append ms (map bare (b ∷ run)) p (run-ends (b ∷ run) (length run) refl ∙ ne_eqb _ _ (last (length run) refl))
 
 -- nothing is read yet
-pub read-none : (line : List ℕ) → HasRead line 0 [] []
+pub read-none : (line : List ℕ) → HasFieldsBefore line 0 [] []
 read-none line = record { within = omega arith; spells = spells-nil; last = refl; later = λ more. refl }
 
 -- the field that ends at a tab
@@ -77,8 +77,8 @@ pub reach-mark : (rest : List ℕ) (at size more : ℕ) (ms : List Mark) (mark :
     → Reaches rest (at + size + more) (ms ++ mark ∷ [])
 reach-mark rest at size more ms mark p q = reach-more rest (at + size) more ms (mark ∷ []) p (subst (λ (t : List ℕ). Reaches t more (mark ∷ [])) (suffix-suffix rest at size) q)
 
-pub meant-mark : (text : List ℕ) (byte : ℕ) (ms : List Mark) (mark : Mark) → text ≡ map meant ms → byte ≡ meant mark → text ++ byte ∷ [] ≡ map meant (ms ++ mark ∷ [])
-meant-mark text byte ms mark e is = ap (λ (t : List ℕ). t ++ byte ∷ []) e ∙ ap (λ (b : ℕ). map meant ms ++ b ∷ []) is ∙ sym (map-append meant ms (mark ∷ []))
+pub meant-mark : (text : List ℕ) (byte : ℕ) (ms : List Mark) (mark : Mark) → text ≡ map meant_byte ms → byte ≡ meant_byte mark → text ++ byte ∷ [] ≡ map meant_byte (ms ++ mark ∷ [])
+meant-mark text byte ms mark e is = ap (λ (t : List ℕ). t ++ byte ∷ []) e ∙ ap (λ (b : ℕ). map meant_byte ms ++ b ∷ []) is ∙ sym (map-append meant_byte ms (mark ∷ []))
 
 pub bad-at : (rest : List ℕ) (at size : ℕ) → IsBadEscape (suffix (suffix rest at) size) → IsBadEscape (drop (at + size) rest)
 bad-at rest at size bad = subst IsBadEscape (suffix-suffix rest at size) bad
@@ -114,13 +114,13 @@ on-ok (Ok x) P e p = p
 on-ok (Err x) P e p = cc e
 
 -- the marks of a line up to a place behind the fields so far
-line-more : (line : List ℕ) (at size : ℕ) (fields : List Field) (ms ns : List Mark) → HasRead line at fields ms → Spells (take size (suffix line at)) ns → Spells (take (at + size) line) (ms ++ ns)
+line-more : (line : List ℕ) (at size : ℕ) (fields : List Field) (ms ns : List Mark) → HasFieldsBefore line at fields ms → Spells (take size (suffix line at)) ns → Spells (take (at + size) line) (ms ++ ns)
 line-more line at size fields ms ns p q =
     rw (take-add at size line) (spells-append _ _ ms ns p.spells (subst (λ (t : List ℕ). Spells (take size t) ns) (take_rest line at) q))
 
 -- one more field, and the tab that ends it
-pub read-tab : (line : List ℕ) (at size : ℕ) (fields : List Field) (field : Field) (ms : List Mark) → HasRead line at fields ms → (found : FieldOf (suffix line at) field size) → at + size ≢ length line
-    → HasRead line (at + size + 1) (fields ++ field ∷ []) ((ms ++ found.0) ++ bare TAB ∷ [])
+pub read-tab : (line : List ℕ) (at size : ℕ) (fields : List Field) (field : Field) (ms : List Mark) → HasFieldsBefore line at fields ms → (found : FieldOf (suffix line at) field size) → at + size ≢ length line
+    → HasFieldsBefore line (at + size + 1) (fields ++ field ∷ []) ((ms ++ found.0) ++ bare TAB ∷ [])
 read-tab line at size fields field ms p found more' =
     let long : length (suffix line at) ≡ length line - at = ap length (take_rest line at) ∙ length-drop at line in
     let lt : at + size < length line = omega (arith, p.within, found.1.within, more') in
@@ -139,7 +139,7 @@ read-tab line at size fields field ms p found more' =
     }
 
 -- the last field
-pub read-last : (line : List ℕ) (at size : ℕ) (fields : List Field) (field : Field) (ms : List Mark) → HasRead line at fields ms → FieldOf (suffix line at) field size → at + size ≡ length line
+pub read-last : (line : List ℕ) (at size : ℕ) (fields : List Field) (field : Field) (ms : List Mark) → HasFieldsBefore line at fields ms → FieldOf (suffix line at) field size → at + size ≡ length line
     → IsTabRow line (fields ++ field ∷ [])
 read-last line at size fields field ms p found end =
     let long : length (suffix line at) ≡ length line - at = ap length (take_rest line at) ∙ length-drop at line in
@@ -151,7 +151,7 @@ read-last line at size fields field ms p found end =
     )
 
 -- a fault
-pub read-fault : (line : List ℕ) (at : ℕ) (fields : List Field) (ms : List Mark) (e : LineFault) → HasRead line at fields ms
+pub read-fault : (line : List ℕ) (at : ℕ) (fields : List Field) (ms : List Mark) (e : LineFault) → HasFieldsBefore line at fields ms
     → UnlessNoMemory {A = Result (Field × ℕ) LineFault} (Err fault.NoMemory) (Err e) (ReadsField (suffix line at) at (Err e))
     → UnlessNoMemory {A = Result (List Field) LineFault} (Err fault.NoMemory) (Err e) (TabAnswers line (Err e))
 read-fault line at fields ms (fault.BadEscape place) p found _ =

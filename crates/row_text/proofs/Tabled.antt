@@ -12,7 +12,7 @@ use Rattle.row_text.specs.declared.cutter.CutRule.{CutRule}
 use Rattle.row_text.specs.declared.cutter.CutRule.TheVariants as rule
 use Rattle.row_text.specs.Cutting.{IsWhole, ended}
 use Rattle.row_text.specs.CsvRow.{BeginsWithMark, IsCsvRow, csv_fields, csv_line, csv_text, is_blank_line}
-use Rattle.row_text.specs.declared.letters.TheConstants.{CARRIAGE_RETURN}
+use Rattle.dict_value.specs.declared.letters.TheConstants.{CARRIAGE_RETURN}
 use Rattle.row_text.specs.TabRow.{IsTabRow, row_line}
 use Rattle.row_text.specs.Tables.{AreLines, IsCsvTable, IsTabTable, last_line}
 use Rattle.row_text.proofs.CsvReads.{one-csv_row}

@@ -9,8 +9,9 @@ use Rattle.dict_value.specs.declared.value.Field.{Field}
 use Rattle.dict_value.specs.declared.value.Field.TheVariants as field
 use Rattle.row_text.specs.declared.cutter.CutRule.TheVariants as rule
 use Rattle.row_text.specs.Cutting.{IsOpen, IsWhole, keeps_open}
-use Rattle.row_text.specs.declared.letters.TheConstants.{BACKSLASH, CAPITAL_N, CARRIAGE_RETURN, LETTER_X, LINE_FEED, TAB}
-use Rattle.row_text.specs.Marks.{Mark, bare, escaped, hex, hex_digit, IsMark, Spells, meant, spelled, unescaped}
+use Rattle.dict_value.specs.declared.letters.TheConstants.{BACKSLASH, CAPITAL_N, CARRIAGE_RETURN, LETTER_X, LINE_FEED, TAB}
+use Rattle.dict_value.specs.Escapes.{hex_digit, unescaped}
+use Rattle.row_text.specs.Marks.{Mark, bare, escaped, hex, IsMark, Spells, meant_byte, spelled}
 use Rattle.row_text.specs.TabRow.{IsTabRow, ends_in_return, field_of, field_text, fields_of, is_null, is_return, is_tab, row_line, written_as, written_byte, written_letter}
 use Rattle.row_text.proofs.CutSteps.{keeps_open-nil, keeps_open-push}
 use Rattle.row_text.proofs.MarkLists.{all-append, ends-append, ends-append_cons, spells-append}
@@ -64,7 +65,7 @@ mark_of b = mark_as b (written_letter b)
 record IsWritten (b : ℕ) (text : List ℕ) (mark : Mark) : Type 0 where
   valid : IsMark mark
   written : spelled mark ≡ text
-  means : meant mark ≡ b
+  means : meant_byte mark ≡ b
   untabbed : is_tab mark ≡ false
   open' : is_return mark ≡ false
   some : is_null (mark ∷ []) ≡ false
@@ -99,9 +100,9 @@ text-spells (b ∷ bytes) =
       joined = ap (λ (t : List ℕ). t ++ flat_map written_byte bytes) (sym (known b).written) ∙ ap (λ (t : List ℕ). spelled (mark_of b) ++ t) more.joined;
     }
 
-text-meant : (bytes : List ℕ) → map meant (map mark_of bytes) ≡ bytes
+text-meant : (bytes : List ℕ) → map meant_byte (map mark_of bytes) ≡ bytes
 text-meant [] = refl
-text-meant (b ∷ bytes) = ap (λ (x : ℕ). x ∷ map meant (map mark_of bytes)) (known b).means ∙ ap (λ (t : List ℕ). b ∷ t) (text-meant bytes)
+text-meant (b ∷ bytes) = ap (λ (x : ℕ). x ∷ map meant_byte (map mark_of bytes)) (known b).means ∙ ap (λ (t : List ℕ). b ∷ t) (text-meant bytes)
 
 text-untabbed : (bytes : List ℕ) → AllByRecursion (λ m. is_tab m ≡ false) (map mark_of bytes)
 text-untabbed [] = tt

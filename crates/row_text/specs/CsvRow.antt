@@ -8,7 +8,7 @@ use Rattle.dict_value.specs.declared.value.Field.{Field}
 use Rattle.dict_value.specs.declared.value.Field.TheVariants as field
 use Rattle.dict_value.specs.declared.fault.LineFault.{LineFault}
 use Rattle.dict_value.specs.declared.fault.LineFault.TheVariants as fault
-use Rattle.row_text.specs.declared.letters.TheConstants.{BACKSLASH, CAPITAL_N, CARRIAGE_RETURN, DOUBLE_QUOTE}
+use Rattle.dict_value.specs.declared.letters.TheConstants.{BACKSLASH, CAPITAL_N, CARRIAGE_RETURN, DOUBLE_QUOTE}
 
 -- the records that `csv` reads of a text, each with its fields; a byte order mark at its front is none of them
 abbrev pub AreCsvRecords : List ℕ → List (List (List ℕ)) → Type 0

@@ -4,7 +4,7 @@ use Rattle.std.specs.Prelude.{List, length, take, slice_index, count_by}
 use Rattle.std.specs.List.{AllByRecursion, flat_map, suffix_len}
 use Rattle.row_text.specs.declared.cutter.CutRule.{CutRule}
 use Rattle.row_text.specs.declared.cutter.CutRule.TheVariants as rule
-use Rattle.row_text.specs.declared.letters.TheConstants.{BACKSLASH, DOUBLE_QUOTE, LINE_FEED}
+use Rattle.dict_value.specs.declared.letters.TheConstants.{BACKSLASH, DOUBLE_QUOTE, LINE_FEED}
 
 abbrev pub is_odd : ℕ → Bool
 is_odd n = (n % 2) == 1

@@ -4,7 +4,7 @@ use Rattle.row_text.specs.declared.cutter.CutRule.{CutRule}
 use Rattle.row_text.specs.declared.cutter.Cut.{Cut}
 use Rattle.row_text.specs.declared.cutter.Cut.TheVariants as cut
 use Rattle.row_text.specs.declared.cutter.Cutter.{Cutter}
-use Rattle.row_text.specs.declared.letters.TheConstants.{LINE_FEED}
+use Rattle.dict_value.specs.declared.letters.TheConstants.{LINE_FEED}
 use Rattle.row_text.specs.Cutting.{IsOpen, IsWhole, keeps_open}
 
 -- the cutter goes by this rule, and stands behind these bytes of a row

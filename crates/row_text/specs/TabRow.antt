@@ -6,10 +6,10 @@ use Rattle.dict_value.specs.declared.value.Field.{Field}
 use Rattle.dict_value.specs.declared.value.Field.TheVariants as field
 use Rattle.dict_value.specs.declared.fault.LineFault.{LineFault}
 use Rattle.dict_value.specs.declared.fault.LineFault.TheVariants as fault
-use Rattle.row_text.specs.declared.letters.TheConstants.{BACKSLASH, BACKSPACE, CAPITAL_N, CARRIAGE_RETURN, DIGIT_0}
-use Rattle.row_text.specs.declared.letters.TheConstants.{FORM_FEED, LETTER_B, LETTER_F, LETTER_N, LETTER_R, LETTER_T}
-use Rattle.row_text.specs.declared.letters.TheConstants.{LINE_FEED, NUL, SINGLE_QUOTE, TAB}
-use Rattle.row_text.specs.Marks.{Mark, bare, escaped, hex, meant, Spells, IsBadEscape}
+use Rattle.dict_value.specs.declared.letters.TheConstants.{BACKSLASH, BACKSPACE, CAPITAL_N, CARRIAGE_RETURN, DIGIT_0}
+use Rattle.dict_value.specs.declared.letters.TheConstants.{FORM_FEED, LETTER_B, LETTER_F, LETTER_N, LETTER_R, LETTER_T}
+use Rattle.dict_value.specs.declared.letters.TheConstants.{LINE_FEED, NUL, SINGLE_QUOTE, TAB}
+use Rattle.row_text.specs.Marks.{Mark, bare, escaped, hex, meant_byte, Spells, IsBadEscape}
 
 -- whether a mark is a tab that no backslash took
 abbrev pub is_tab : Mark → Bool
@@ -27,7 +27,7 @@ is_null (escaped b ∷ mark ∷ marks) = false
 
 -- the field that the marks between two tabs stand for
 abbrev pub field_of : List Mark → Field
-field_of marks = if is_null marks then field.Null else field.Text (map meant marks)
+field_of marks = if is_null marks then field.Null else field.Text (map meant_byte marks)
 
 abbrev pub fields_of : List Mark → List Field
 fields_of marks = map field_of (slice_split is_tab marks)

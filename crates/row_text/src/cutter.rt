@@ -7,7 +7,7 @@ ghost use Rattle.row_text.specs.steps.CutSteps.{BeginsWithLine, CutsPiece, Finds
 ghost use Rattle.row_text.specs.Held.{Holds};
 ghost use Rattle.row_text.specs.declared.cutter.CutRule.{CutRule};
 
-use crate::letters::{BACKSLASH, DOUBLE_QUOTE, LINE_FEED};
+use dict_value::letters::{BACKSLASH, DOUBLE_QUOTE, LINE_FEED};
 use dict_value::{Bytes, ListOf, NoMemory};
 use std::alloc::Global;
 

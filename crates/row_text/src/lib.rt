@@ -13,7 +13,6 @@ pub mod csv_row;
 pub mod cutter;
 pub mod decode;
 pub mod laws;
-pub mod letters;
 pub mod tab_row;
 
 pub use csv_row::{is_blank_line, read_csv_row, write_csv_row};

@@ -6,15 +6,15 @@ ghost use Rattle.dict_value.specs.declared.value.Field.{Field};
 ghost use Rattle.dict_value.specs.declared.value.Field.TheVariants as field;
 ghost use Rattle.dict_value.specs.declared.fault.LineFault.{LineFault};
 ghost use Rattle.row_text.specs.Cutting.{IsWhole, ended};
-ghost use Rattle.row_text.specs.Marks.{Mark, Spells, meant, unescaped as unescaped_of, hex_digit as hex_digit_of};
+ghost use Rattle.row_text.specs.Marks.{Mark, Spells, meant_byte};
 ghost use Rattle.dict_value.specs.Memory.{UnlessNoMemory};
 ghost use Rattle.row_text.specs.TabRow.{TabAnswers, IsTabRow, field_of, field_text, row_line};
 ghost use Rattle.row_text.specs.TabRow.{written_byte, written_letter};
 ghost use Rattle.row_text.specs.steps.TabSteps.{EscapeOf, IsPlain, ReadsField};
 ghost use Rattle.row_text.specs.declared.cutter.CutRule.TheVariants as rule;
 
-use crate::letters::*;
-use dict_value::{Bytes, Field, Fields, LineFault, ListOf, NoMemory};
+use dict_value::letters::*;
+use dict_value::{Bytes, Field, Fields, LineFault, ListOf, NoMemory, hex_digit, unescaped};
 use std::alloc::Global;
 
 /// The fields of one row, which comes without its line feed.
@@ -101,7 +101,7 @@ fn run_len(rest: &[u8]) -> usize
 
 /// The field of these bytes, given the text that they stand for.
 fn field_from(raw: &[u8], text: Bytes) -> Field
-    ensures { (marks : List Mark) → Spells raw.now marks → text ≡ map meant marks → result ≡ field_of marks }
+    ensures { (marks : List Mark) → Spells raw.now marks → text ≡ map meant_byte marks → result ≡ field_of marks }
 {
     if raw.len() == 2 && raw[0] == BACKSLASH && raw[1] == CAPITAL_N {
         Field::Null
@@ -129,38 +129,6 @@ fn escape_of(rest: &[u8]) -> Option<(u8, usize)>
     match (hex_digit(rest[2]), hex_digit(rest[3])) {
         (Some(high), Some(low)) => Some((16 * high + low, 4)),
         _ => None,
-    }
-}
-
-/// The value of a hexadecimal digit.
-#[tactic(auto, unfolding(crate::specs::Marks::hex_digit))]
-fn hex_digit(b: u8) -> Option<u8>
-    ensures value { result ≡ hex_digit_of b }
-    ensures small { IfSome result (λ v. v < 16) }
-{
-    match b {
-        DIGIT_0..=DIGIT_9 => Some(b - DIGIT_0),
-        CAPITAL_A..=CAPITAL_F => Some(b - CAPITAL_A + 10),
-        LETTER_A..=LETTER_F => Some(b - LETTER_A + 10),
-        _ => None,
-    }
-}
-
-/// The byte that a backslash and this byte stand for.
-#[tactic(auto, unfolding(crate::specs::Marks::unescaped))]
-fn unescaped(b: u8) -> u8
-    ensures { result ≡ unescaped_of b }
-{
-    match b {
-        LETTER_B => BACKSPACE,
-        LETTER_F => FORM_FEED,
-        LETTER_R => CARRIAGE_RETURN,
-        LETTER_N => LINE_FEED,
-        LETTER_T => TAB,
-        DIGIT_0 => NUL,
-        LETTER_A => BELL,
-        LETTER_V => VERTICAL_TAB,
-        _ => b,
     }
 }
 

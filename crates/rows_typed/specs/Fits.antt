@@ -10,15 +10,15 @@ use Rattle.dict_value.specs.declared.value.Value.TheVariants.{Null}
 use Rattle.dict_value.specs.Values.{FitsColumn, HasType}
 
 -- whether a column is an end of a range
-abbrev pub is_end : Role → Bool
-is_end role.Start = true
-is_end role.End = true
-is_end role.Key = false
-is_end role.Attribute = false
+abbrev pub is_end_role : Role → Bool
+is_end_role role.Start = true
+is_end_role role.End = true
+is_end_role role.Key = false
+is_end_role role.Attribute = false
 
 -- a value of the type, or Null where the type allows it or the column is an end of a range
 abbrev pub FitsRole : Role → AttrType → Value → Type 0
-FitsRole role t Null = IsTrue (is_end role || t.nullable)
+FitsRole role t Null = IsTrue (is_end_role role || t.nullable)
 FitsRole role t v = HasType t.base v
 
 -- the row has a value for each column, and each fits

@@ -19,7 +19,7 @@ use Rattle.dict_value.specs.declared.value.Value.{Value}
 use Rattle.dict_value.specs.declared.value.Value.TheVariants.{Null}
 use Rattle.dict_value.specs.Values.{text_reading}
 use Rattle.row_text.specs.Decoding.{Decoded, Decodes, Reader}
-use Rattle.row_text.specs.declared.letters.TheConstants.{BACKSLASH, CAPITAL_N}
+use Rattle.dict_value.specs.declared.letters.TheConstants.{BACKSLASH, CAPITAL_N}
 
 -- a text without the blanks at its end
 abbrev pub without_end_blanks : List ℕ → List ℕ

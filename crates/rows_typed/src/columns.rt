@@ -7,7 +7,7 @@ ghost use Rattle.rows_typed.specs.Shapes.{is_null_text, column_by, value_at, wit
 use dict_schema::{Role, ShapeColumn};
 use dict_value::{AttrType, BadValue, Bytes, ColType, Field, Format, Value, copy_value, read_text};
 use row_text::Columns;
-use row_text::letters::{BACKSLASH, CAPITAL_N, TAB};
+use dict_value::letters::{BACKSLASH, CAPITAL_N, TAB};
 use std::alloc::Global;
 
 const SPACE: u8 = b' ';

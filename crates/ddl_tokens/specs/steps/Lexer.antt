@@ -12,7 +12,7 @@ use Rattle.ddl_tokens.specs.declared.quoted.Step.{Step}
 use Rattle.ddl_tokens.specs.declared.quoted.Step.TheVariants as step
 use Rattle.ddl_tokens.specs.Letters.{is_space, is_digit, is_word_start, is_word_byte, is_sign, is_number_sign}
 use Rattle.ddl_tokens.specs.Letters.{quoted_kind, begins_with}
-use Rattle.ddl_tokens.specs.Quoted.{hex_digit, begins_with_digits, unescaped}
+use Rattle.dict_value.specs.Escapes.{hex_digit, begins_with_digits, unescaped}
 use Rattle.ddl_tokens.specs.Tokens.{Token}
 
 -- ---- between tokens

@@ -18,9 +18,9 @@ pub record Lands {K : Type 0} (size home : ℕ) (held : ℕ → Option K) (key :
   pub stops : (held i ≡ None) ⊎ (held i ≡ Some key)
 
 -- where the probes of a key end: at a cell, or nowhere where each cell has another key
-abbrev pub EndsAt : {K : Type 0} → ℕ → ℕ → (ℕ → Option K) → K → Option ℕ → Type 0
-EndsAt size home held key None = (probe : ℕ) → probe < size → Passes size home held key probe
-EndsAt size home held key (Some i) = Lands size home held key i
+abbrev pub ProbesEndAt : {K : Type 0} → ℕ → ℕ → (ℕ → Option K) → K → Option ℕ → Type 0
+ProbesEndAt size home held key None = (probe : ℕ) → probe < size → Passes size home held key probe
+ProbesEndAt size home held key (Some i) = Lands size home held key i
 
 -- how many cells are free
 abbrev pub free_cells : List Cell → ℕ

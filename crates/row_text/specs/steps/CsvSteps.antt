@@ -4,7 +4,7 @@ use Rattle.std.specs.List.{AllByRecursion}
 use Rattle.csv.specs.declared.error.ErrorKind.{ErrorKind}
 use Rattle.csv.specs.declared.error.ErrorKind.TheVariants as kind
 use Rattle.row_text.specs.CsvRow.{IsRecord}
-use Rattle.row_text.specs.declared.letters.TheConstants.{CARRIAGE_RETURN, COMMA, DOUBLE_QUOTE, LINE_FEED}
+use Rattle.dict_value.specs.declared.letters.TheConstants.{CARRIAGE_RETURN, COMMA, DOUBLE_QUOTE, LINE_FEED}
 
 -- a byte that is its own in a field without quotes
 abbrev pub IsPlainByte : ℕ → Type 0

@@ -3,7 +3,7 @@ use Rattle.std.specs.Prelude.{◌≡◌, ◌⊎◌, ◌<◌, ◌++◌, [], slice
 use Rattle.row_text.specs.declared.cutter.CutRule.{CutRule}
 use Rattle.row_text.specs.declared.cutter.Found.{Found}
 use Rattle.row_text.specs.declared.cutter.Found.TheVariants as found
-use Rattle.row_text.specs.declared.letters.TheConstants.{LINE_FEED}
+use Rattle.dict_value.specs.declared.letters.TheConstants.{LINE_FEED}
 use Rattle.std.specs.List.{AllByRecursion, flat_map}
 use Rattle.row_text.specs.Cutting.{IsOpen, IsWhole, ended, keeps_open}
 

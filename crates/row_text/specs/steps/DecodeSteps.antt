@@ -17,8 +17,8 @@ use Rattle.dict_value.specs.declared.value.TheConstants.{MOST_ROWS}
 use Rattle.row_text.specs.Decoding.{IsBadLine, IsTypedRow, Reader, is_row_line, readings}
 
 -- the first fault of the columns from the left, and its column
-abbrev pub IsFirstFault : List Reader → List Field → ℕ → Why → Type 0
-IsFirstFault columns fields column reason =
+abbrev pub IsFirstBadField : List Reader → List Field → ℕ → Why → Type 0
+IsFirstBadField columns fields column reason =
     (before : List Value) × (fault : BadValue) × (after : List (Result Value BadValue))
     × (readings columns fields ≡ map Ok before ++ Err fault ∷ after)
     × (column ≡ length before + 1) × (reason ≡ why.Value fault)
@@ -26,7 +26,7 @@ IsFirstFault columns fields column reason =
 -- what the columns make of the fields: a row, or the first fault and its column
 abbrev pub TakeAll : List Reader → List Field → Result (List Value) RowFault → Type 0
 TakeAll columns fields (Ok values) = readings columns fields ≡ map Ok values
-TakeAll columns fields (Err (no_row.Bad column reason)) = IsFirstFault columns fields column reason
+TakeAll columns fields (Err (no_row.Bad column reason)) = IsFirstBadField columns fields column reason
 TakeAll columns fields (Err no_row.NoMemory) = ⊥
 
 -- a line's fault as that of a row

@@ -5,8 +5,8 @@ use Rattle.std.specs.List.{AllByRecursion}
 use Rattle.dict_value.specs.declared.value.Field.{Field}
 use Rattle.dict_value.specs.declared.fault.LineFault.{LineFault}
 use Rattle.dict_value.specs.declared.fault.LineFault.TheVariants as fault
-use Rattle.row_text.specs.declared.letters.TheConstants.{TAB, BACKSLASH}
-use Rattle.row_text.specs.Marks.{Mark, IsBadEscape, Spells, meant}
+use Rattle.dict_value.specs.declared.letters.TheConstants.{TAB, BACKSLASH}
+use Rattle.row_text.specs.Marks.{Mark, IsBadEscape, Spells, meant_byte}
 use Rattle.row_text.specs.TabRow.{EndsInReturn, ends_in_return, field_of, fields_of, is_tab}
 
 -- a byte that ends no field and begins no escape
@@ -23,7 +23,7 @@ pub record Reaches (rest : List ℕ) (place : ℕ) (marks : List Mark) : Type 0 
 abbrev pub EscapeOf : List ℕ → Option (ℕ × ℕ) → Type 0
 EscapeOf text None = IsBadEscape text
 EscapeOf text (Some escape) =
-    (mark : Mark) × (escape.0 ≡ meant mark) × (escape.1 ≤ length text) × (ends_in_return (mark ∷ []) ≡ false)
+    (mark : Mark) × (escape.0 ≡ meant_byte mark) × (escape.1 ≤ length text) × (ends_in_return (mark ∷ []) ≡ false)
     × Reaches text escape.1 (mark ∷ [])
 
 -- a field begins at the start of the text and ends at this place
@@ -45,7 +45,7 @@ ReadsField rest start (Err fault.NotOneRecord) = ⊥
 ReadsField rest start (Err fault.NoMemory) = ⊥
 
 -- these fields stand before a place of the line where the next one begins
-pub record HasRead (line : List ℕ) (place : ℕ) (fields : List Field) (marks : List Mark) : Type 0 where
+pub record HasFieldsBefore (line : List ℕ) (place : ℕ) (fields : List Field) (marks : List Mark) : Type 0 where
   pub within : place ≤ length line
   pub spells : Spells (take place line) marks
   pub last : ends_in_return marks ≡ false

@@ -3,13 +3,13 @@ use Rattle.std.proofs.Common.{◌<◌, ℕ, List, arith, get_or, length, subst}
 use Rattle.hashed_layout.specs.Probing.{home_of}
 use Rattle.hashed_layout.specs.Tables.{held}
 use Rattle.hashed_layout.specs.declared.hashed.Cell.{Cell}
-use Rattle.hashed_layout.specs.steps.Filling.{EndsAt}
+use Rattle.hashed_layout.specs.steps.Filling.{ProbesEndAt}
 use Rattle.hashed_layout.proofs.TableLemmas.{added, full, home-within, kept, lands-free, lands-taken, read}
 use Rattle.std.specs.Prelude.{Option, None, Some}
 use Rattle.hashed_layout.proofs.hashed.put.Goals as goal
 
 abbrev Ends : ℕ → Option ℕ → List Cell → Type 0
-Ends key end cells = EndsAt (length cells) (home_of (length cells) key) (held cells) key end
+Ends key end cells = ProbesEndAt (length cells) (home_of (length cells) key) (held cells) key end
 
 pub unreachable-requires : goal.unreachable-requires
 unreachable-requires c =

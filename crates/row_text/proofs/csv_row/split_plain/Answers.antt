@@ -3,7 +3,7 @@ use Rattle.std.proofs.lemmas.Bool.{eqb-false}
 use Rattle.dict_value.specs.declared.value.Field.{Field}
 use Rattle.dict_value.specs.declared.value.Field.TheVariants as field
 use Rattle.row_text.specs.CsvRow.{IsCsvRow}
-use Rattle.row_text.specs.declared.letters.TheConstants.{COMMA}
+use Rattle.dict_value.specs.declared.letters.TheConstants.{COMMA}
 use Rattle.row_text.proofs.CsvPlain.{Splits, split-last, split-more, split-none}
 use Rattle.row_text.proofs.Reached.{suffix}
 use Rattle.row_text.proofs.csv_row.split_plain.Goals as goal

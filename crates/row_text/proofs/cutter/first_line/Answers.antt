@@ -1,5 +1,5 @@
 use Rattle.std.proofs.Common.{◌∷◌, ◌∙◌, [], sym, inl, append_assoc}
-use Rattle.row_text.specs.declared.letters.TheConstants.{LINE_FEED}
+use Rattle.dict_value.specs.declared.letters.TheConstants.{LINE_FEED}
 use Rattle.row_text.proofs.Pieces.{front-of, rest-of}
 use Rattle.row_text.proofs.cutter.first_line.Goals as goal
 

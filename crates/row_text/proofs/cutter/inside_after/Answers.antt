@@ -1,6 +1,6 @@
 use Rattle.std.proofs.Common.{◌∙◌, sym, refl, false, not}
 use Rattle.std.proofs.lemmas.Bool.{ne_eqb}
-use Rattle.row_text.specs.declared.letters.TheConstants.{BACKSLASH, DOUBLE_QUOTE}
+use Rattle.dict_value.specs.declared.letters.TheConstants.{BACKSLASH, DOUBLE_QUOTE}
 use Rattle.row_text.proofs.CutSteps.{keeps_open-push, toggle-at, toggle-other}
 use Rattle.row_text.proofs.cutter.inside_after.Goals as goal
 

@@ -1,5 +1,5 @@
 use Rattle.std.proofs.Common.{◌≢◌, ◌<◌, ◌-◌, ◌∙◌, ◌++◌, ◌∷◌, ◌+◌, [], get_or, sym, arith, map, take}
-use Rattle.row_text.specs.declared.letters.TheConstants.{CARRIAGE_RETURN}
+use Rattle.dict_value.specs.declared.letters.TheConstants.{CARRIAGE_RETURN}
 use Rattle.row_text.specs.Marks.{bare}
 use Rattle.row_text.proofs.MarkLists.{ends-append_cons}
 use Rattle.row_text.proofs.Reached.{at-suffix, bad-at, meant-mark, meant-run, on-ok, reach-mark, reach-plain, run-opens, run-shuts, suffix, whole-spells}

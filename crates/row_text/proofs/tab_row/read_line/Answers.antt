@@ -1,5 +1,5 @@
 use Rattle.std.proofs.Common.{◌++◌, ◌∷◌, []}
-use Rattle.row_text.specs.declared.letters.TheConstants.{TAB}
+use Rattle.dict_value.specs.declared.letters.TheConstants.{TAB}
 use Rattle.row_text.specs.Marks.{bare}
 use Rattle.row_text.proofs.Reached.{on-ok, read-fault, read-last, read-tab}
 use Rattle.row_text.proofs.tab_row.read_line.Goals as goal

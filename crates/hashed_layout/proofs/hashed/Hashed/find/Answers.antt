@@ -5,12 +5,12 @@ use Rattle.dict_value.specs.FindByKey.{FindsByKey}
 use Rattle.hashed_layout.specs.Probing.{home_of}
 use Rattle.hashed_layout.specs.Tables.{held}
 use Rattle.hashed_layout.specs.declared.hashed.Cell.{Cell}
-use Rattle.hashed_layout.specs.steps.Filling.{EndsAt}
+use Rattle.hashed_layout.specs.steps.Filling.{ProbesEndAt}
 use Rattle.hashed_layout.proofs.TableLemmas.{found-free, found-nowhere, found-taken, read}
 use Rattle.hashed_layout.proofs.hashed.Hashed.find.Goals as goal
 
 abbrev Ends : ℕ → Option ℕ → List Cell → Type 0
-Ends key end cells = EndsAt (length cells) (home_of (length cells) key) (held cells) key end
+Ends key end cells = ProbesEndAt (length cells) (home_of (length cells) key) (held cells) key end
 
 pub returns-in_err-at : goal.returns-in_err-at
 returns-in_err-at c = λ keys table.

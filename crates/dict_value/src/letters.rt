@@ -1,4 +1,4 @@
-// The bytes that row texts set apart, by name.
+// The bytes that texts set apart, by name.
 
 pub const NUL: u8 = 0;
 

@@ -1,0 +1,7 @@
+mod MarkAhead
+mod DefaultFits
+mod OneToken
+pub mod TypeLaws
+pub mod ColumnLaws
+pub mod KeyLaws
+pub mod ArgumentLaws

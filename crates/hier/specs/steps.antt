@@ -1,0 +1,4 @@
+-- Relations of the loops.
+pub mod Counting
+pub mod Finding
+pub mod Linking
