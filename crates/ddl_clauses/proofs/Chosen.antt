@@ -1,5 +1,5 @@
 -- Tokens that are judged by their bytes, and readings that have to pass a test, keep the laws.
-use Rattle.std.proofs.Common.{◌≡◌, ℕ, Bool, true, false, cond, List, [], ◌∷◌, ◌++◌, Option, Some, None, Result, Ok, Err, refl, sym, ap, subst, ◌∙◌, inl, inr, append_assoc}
+use Rattle.std.proofs.Common.{◌≡◌, ℕ, Bool, true, false, cond, List, ◌++◌, Option, Some, None, Result, Ok, Err, refl, sym, ap, subst, ◌∙◌, inl, inr, append_assoc}
 use Rattle.std.proofs.lemmas.Bool.{cond-true, cond-false}
 use Rattle.ddl_tokens.specs.declared.token.TokenKind.{TokenKind}
 use Rattle.ddl_tokens.specs.declared.token.TokenKind.TheVariants.{End}
@@ -7,7 +7,7 @@ use Rattle.ddl_tokens.specs.declared.fault.SyntaxFault.{SyntaxFault}
 use Rattle.ddl_tokens.specs.declared.fault.SyntaxFault.TheVariants.{Unexpected}
 use Rattle.ddl_tokens.specs.Tokens.{Token}
 use Rattle.ddl_tokens.specs.Reading.{◌>>=◌, Read, kind_ahead, place_ahead, bytes_ahead, unexpected}
-use Rattle.ddl_tokens.specs.Laws.{Grammar, first, place_of, Anyhow, Lawful}
+use Rattle.ddl_tokens.specs.Laws.{Grammar, place_of, Anyhow, Lawful}
 use Rattle.ddl_tokens.proofs.Laws.{bind_ok, bind_err, ok_is, test_cases, one_token}
 use Rattle.ddl_tokens.proofs.Once.{place_same}
 use Rattle.ddl_clauses.specs.Choices.{Meaning, choice, chosen_at, or_fault, meant_by}

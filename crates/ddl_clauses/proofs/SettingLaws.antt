@@ -3,14 +3,13 @@ use Rattle.std.proofs.Common.{◌≡◌, ℕ, zero, suc, Bool, true, false, cond
 use Rattle.std.specs.Prelude.{codes, ◌==◌}
 use mathlib.Core.Path.{fun_ext}
 use mathlib.Core.Bool.{Bool-set}
-use Rattle.std.proofs.lemmas.Bool.{cond-true, cond-false, cases_Bool, eq-eqb, eqb-true}
-use Rattle.ddl_tokens.specs.declared.letters.LetterCase.{LetterCase}
+use Rattle.std.proofs.lemmas.Bool.{cond-true, cond-false, cases_Bool, eqb-true}
 use Rattle.ddl_tokens.specs.declared.letters.LetterCase.TheVariants.{Any}
 use Rattle.ddl_tokens.specs.declared.token.TokenKind.TheVariants.{Word, QuotedWord, Number, String, Sign}
 use Rattle.ddl_tokens.specs.declared.token.TokenKind.{TokenKind}
 use Rattle.ddl_tokens.specs.declared.fault.SyntaxFault.{SyntaxFault}
 use Rattle.ddl_tokens.specs.declared.fault.SyntaxFault.TheVariants.{Unexpected, UnknownSetting, Unsupported}
-use Rattle.ddl_tokens.specs.Letters.{folded, same_letters}
+use Rattle.ddl_tokens.specs.Letters.{same_letters}
 use Rattle.ddl_tokens.specs.Tokens.{Token}
 use Rattle.ddl_tokens.specs.Reading.{◌>>=◌, is_name, is_number, is_string, is_keyword, is_signed, is_the_sign, passes, bytes_ahead}
 use Rattle.ddl_tokens.specs.Laws.{first, place_of, Anyhow, Lawful, IsSign, Made}

@@ -108,8 +108,8 @@ abbrev pub most_short : ℕ
 most_short = 4294967295
 
 -- such a number, read
-abbrev pub whole_at : ℕ → List Token → Read ℕ
-whole_at most ts = chosen_at is_number (meant_by Unexpected (whole_in most)) ts
+abbrev pub whole_up_to_at : ℕ → List Token → Read ℕ
+whole_up_to_at most ts = chosen_at is_number (meant_by Unexpected (whole_in most)) ts
 
 -- a letter or _, then letters, digits and _
 abbrev pub has_bare_form : List ℕ → Bool

@@ -37,7 +37,7 @@ use Rattle.ddl_clauses.specs.Layouts.{all_layouts, layout_named, layout_section}
 use Rattle.ddl_clauses.specs.SettingLists.{setting, number_of_setting, wanted_numbers, has_field_for_lag}
 use Rattle.ddl_clauses.specs.Clauses.{source, layout, lifetime, range, or_empty, has_some, clause_number}
 use Rattle.ddl_clauses.specs.Clauses.{number_of_clause}
-use Rattle.ddl_clauses.specs.Clauses.{wanted_clauses, clause_kind, WrittenFunction, written_function}
+use Rattle.ddl_clauses.specs.Clauses.{wanted_clauses, begun_clause, WrittenFunction, written_function}
 
 -- one token of some kind, whose bytes mean this value
 abbrev pub IsChosen : {A : Type 0} → (TokenKind → Bool) → Meaning A → Grammar A
@@ -181,7 +181,7 @@ AreDictionaryClauses = InAnyOrder clause_number number_of_clause IsDictionaryCla
 -- they stop where a token begins no clause
 abbrev pub NoClauseFollows : {A : Type 0} → Stopping A
 NoClauseFollows a None = Unit {0}
-NoClauseFollows a (Some t) = clause_kind t ≡ None
+NoClauseFollows a (Some t) = begun_clause t ≡ None
 
 -- the source of a function [ SETTINGS .. ]
 abbrev pub IsWrittenFunction : Grammar WrittenFunction

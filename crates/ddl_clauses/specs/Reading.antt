@@ -1,7 +1,7 @@
 -- The clauses, as they are read.
 use Rattle.std.specs.Prelude.{ℕ, List, [], codes, Option, Some, None, Ok, if◌then◌else◌}
 use Rattle.dict_schema.specs.declared.definition.Lifetime.{Lifetime}
-use Rattle.ddl_tokens.specs.declared.fault.SyntaxFault.TheVariants.{Unexpected, UnknownSetting, Unsupported}
+use Rattle.ddl_tokens.specs.declared.fault.SyntaxFault.TheVariants.{UnknownSetting, Unsupported}
 use Rattle.ddl_tokens.specs.Tokens.{Token}
 use Rattle.ddl_tokens.specs.Reading.{◌>>=◌, Read, passes, of_kind, is_keyword, is_name, is_number, is_string}
 use Rattle.ddl_tokens.specs.Reading.{is_the_sign}
@@ -21,7 +21,7 @@ use Rattle.ddl_clauses.specs.declared.settings.Owner.TheVariants.{Dictionary, Fu
 use Rattle.ddl_clauses.specs.declared.settings.Section.{Section}
 use Rattle.ddl_clauses.specs.declared.settings.Setting.{Setting}
 use Rattle.ddl_clauses.specs.Settings.{source_section, wanted_settings}
-use Rattle.ddl_clauses.specs.Choices.{chosen_at, meant_by, source_kind_in, whole_at, most_whole, most_short, word_in}
+use Rattle.ddl_clauses.specs.Choices.{chosen_at, meant_by, source_kind_in, whole_up_to_at, most_whole, most_short, word_in}
 use Rattle.ddl_clauses.specs.Layouts.{all_layouts, layout_named, layout_section}
 use Rattle.ddl_clauses.specs.SettingLists.{settings_in_brackets_at}
 use Rattle.ddl_clauses.specs.Clauses.{source, layout, lifetime, range, clause_number, number_of_clause}
@@ -29,7 +29,7 @@ use Rattle.ddl_clauses.specs.Clauses.{wanted_clauses, or_empty, has_some, Writte
 use Rattle.ddl_clauses.specs.Parts.{dictionary_parts, function_parts}
 
 unfoldable pub short_at : List Token → Read ℕ
-short_at ts = whole_at most_short ts
+short_at ts = whole_up_to_at most_short ts
 
 -- SOURCE ( kind ( settings ) )
 unfoldable pub source_at : Owner → List Token → Read WrittenSource
@@ -111,7 +111,7 @@ output_settings_at ts = do
   begin ← sign_at 40 word.1
   name ← chosen_at is_name (meant_by UnknownSetting (word_in (codes "max_output_bytes"))) begin.1
   equal ← sign_at 61 name.1
-  output ← whole_at most_whole equal.1
+  output ← whole_up_to_at most_whole equal.1
   end ← sign_at 41 output.1
   Ok (output.0, end.1)
 

@@ -5,7 +5,7 @@ use Rattle.ddl_tokens.specs.declared.letters.LetterCase.TheVariants.{Any}
 use Rattle.ddl_tokens.specs.declared.fault.SyntaxFault.TheVariants.{Unexpected, UnknownSetting, Unsupported}
 use Rattle.ddl_tokens.specs.Letters.{same_letters}
 use Rattle.ddl_tokens.specs.Tokens.{Token}
-use Rattle.ddl_tokens.specs.Reading.{◌>>=◌, Read, passes, of_kind, is_name, is_string, is_number, place_ahead}
+use Rattle.ddl_tokens.specs.Reading.{◌>>=◌, Read, passes, of_kind, is_name, is_string, place_ahead}
 use Rattle.ddl_tokens.specs.Reading.{bytes_ahead}
 use Rattle.ddl_tokens.specs.Reading.{bytes_at, sign_at, unexpected}
 use Rattle.ddl_tokens.specs.Lists.{Kind, Step, has_number, once_of, repeat}
@@ -21,7 +21,7 @@ use Rattle.ddl_clauses.specs.Settings.{setting_number, setting_text, all_setting
 use Rattle.ddl_clauses.specs.Settings.{wanted_settings}
 use Rattle.ddl_clauses.specs.Choices.{chosen_at, meant_by, is_written, is_plain_value, flag_in, no_flag_meant}
 use Rattle.ddl_clauses.specs.Choices.{format_in}
-use Rattle.ddl_clauses.specs.Choices.{strategy_in, whole_at, most_whole, most_short, bare_name_in, word_in}
+use Rattle.ddl_clauses.specs.Choices.{strategy_in, whole_up_to_at, most_whole, most_short, bare_name_in, word_in}
 
 -- ---- one setting
 
@@ -47,8 +47,8 @@ setting_value_at form.Format ts = chosen_at is_written (meant_by Unsupported for
 setting_value_at form.Flag ts = chosen_at is_plain_value (meant_by Unexpected flag_in) ts
     >>= λ x. Ok (value.Flag x.0, x.1)
 setting_value_at form.NoFlag ts = chosen_at is_plain_value no_flag_meant ts >>= λ x. Ok (value.Flag x.0, x.1)
-setting_value_at form.Whole ts = whole_at most_whole ts >>= λ x. Ok (value.Whole x.0, x.1)
-setting_value_at form.Short ts = whole_at most_short ts >>= λ x. Ok (value.Short x.0, x.1)
+setting_value_at form.Whole ts = whole_up_to_at most_whole ts >>= λ x. Ok (value.Whole x.0, x.1)
+setting_value_at form.Short ts = whole_up_to_at most_short ts >>= λ x. Ok (value.Short x.0, x.1)
 setting_value_at form.Strategy ts = chosen_at is_string (meant_by Unexpected strategy_in) ts
     >>= λ x. Ok (value.Strategy x.0, x.1)
 setting_value_at form.BareName ts = chosen_at is_written (meant_by Unexpected bare_name_in) ts
