@@ -1,13 +1,12 @@
 -- What a call answers that gives a lawful reading, and says what was read.
-use Rattle.std.proofs.Common.{◌≡◌, List, ◌++◌, Option, Result, Ok, Err, refl, sym, ap, subst, ◌∙◌, inl, inr}
+use Rattle.std.proofs.Common.{◌≡◌, List, Option, Result, Ok, Err, refl, sym, ap, subst, ◌∙◌, inl, inr}
 use Rattle.std.specs.Prelude.{IfOk}
 use Rattle.dict_value.specs.Memory.{UnlessNoMemory}
 use Rattle.ddl_tokens.specs.declared.fault.ReadFault.{ReadFault}
 use Rattle.ddl_tokens.specs.declared.fault.ReadFault.TheVariants as fault
-use Rattle.ddl_tokens.specs.declared.fault.SyntaxFault.{SyntaxFault}
 use Rattle.ddl_tokens.specs.Tokens.{Token}
 use Rattle.ddl_tokens.specs.Reading.{◌>>=◌, Gives, Read}
-use Rattle.ddl_tokens.specs.Laws.{Grammar, Stopping, first, Begins, IfSyntax, IsLeast, Lawful}
+use Rattle.ddl_tokens.specs.Laws.{Begins, IfSyntax, IsLeast, Lawful}
 use Rattle.ddl_tokens.proofs.Laws.{bind_ok, bind_err, is_least, ok_is}
 use Rattle.ddl_clauses.specs.declared.parts.DictionaryParts.{DictionaryParts}
 use Rattle.ddl_clauses.specs.declared.parts.FunctionParts.{FunctionParts}

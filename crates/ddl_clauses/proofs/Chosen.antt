@@ -1,5 +1,5 @@
 -- Tokens that are judged by their bytes, and readings that have to pass a test, keep the laws.
-use Rattle.std.proofs.Common.{◌≡◌, ℕ, Bool, true, false, cond, List, [], ◌∷◌, ◌++◌, Option, Some, None, Result, Ok, Err, refl, sym, ap, subst, ◌∙◌, inl, inr, append_assoc}
+use Rattle.std.proofs.Common.{◌≡◌, ℕ, Bool, true, false, cond, List, ◌++◌, Option, Some, None, Result, Ok, Err, refl, sym, ap, subst, ◌∙◌, inl, inr, append_assoc}
 use Rattle.std.proofs.lemmas.Bool.{cond-true, cond-false}
 use Rattle.ddl_tokens.specs.declared.token.TokenKind.{TokenKind}
 use Rattle.ddl_tokens.specs.declared.token.TokenKind.TheVariants.{End}
@@ -7,8 +7,9 @@ use Rattle.ddl_tokens.specs.declared.fault.SyntaxFault.{SyntaxFault}
 use Rattle.ddl_tokens.specs.declared.fault.SyntaxFault.TheVariants.{Unexpected}
 use Rattle.ddl_tokens.specs.Tokens.{Token}
 use Rattle.ddl_tokens.specs.Reading.{◌>>=◌, Read, kind_ahead, place_ahead, bytes_ahead, unexpected}
-use Rattle.ddl_tokens.specs.Laws.{Grammar, Stopping, first, place_of, Anyhow, Lawful}
+use Rattle.ddl_tokens.specs.Laws.{Grammar, place_of, Anyhow, Lawful}
 use Rattle.ddl_tokens.proofs.Laws.{bind_ok, bind_err, ok_is, test_cases, one_token}
+use Rattle.ddl_tokens.proofs.Once.{place_same}
 use Rattle.ddl_clauses.specs.Choices.{Meaning, choice, chosen_at, or_fault, meant_by}
 use Rattle.ddl_clauses.specs.SettingLists.{if_passing}
 use Rattle.ddl_clauses.specs.Grammar.{IsChosen}
@@ -44,12 +45,6 @@ meant_placed {A = A} fault value placed p b e h = at (value b) h where
   at : (o : Option A) → or_fault (fault p) o ≡ Err e → p ≡ place_of e
   at None h = let k : fault p ≡ e = cc in placed p ∙ ap place_of k
   at (Some a) h = absurd cc
-
-place_same : (ts us : List Token) → first ts ≡ first us → place_ahead ts ≡ place_ahead us
-place_same [] [] e = refl
-place_same [] (u ∷ us) e = absurd cc
-place_same (t ∷ ts) [] e = absurd cc
-place_same (t ∷ ts) (u ∷ us) e = let k : t ≡ u = cc in ap (λ (x : Token). x.place) k
 
 -- what can go on to one that passes the test
 abbrev pub Completes : {A : Type 0} → (A → Bool) → Grammar A → Type 0

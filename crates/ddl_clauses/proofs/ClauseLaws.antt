@@ -1,35 +1,32 @@
 -- The clauses are read by their grammar: each part names the law that it is put together by.
-use Rattle.std.proofs.Common.{◌≡◌, ℕ, Bool, true, false, cond, List, [], ◌∷◌, ◌++◌, Option, Some, None, Ok, Err, refl, sym, ap, subst, ◌∙◌, inl, inr}
+use Rattle.std.proofs.Common.{◌≡◌, ℕ, Bool, true, false, cond, List, [], ◌∷◌, ◌++◌, Option, Some, None, Ok, refl, sym, ap, subst, ◌∙◌, inl, inr}
 use Rattle.std.specs.Prelude.{codes}
 use mathlib.Core.Path.{fun_ext}
 use Rattle.std.proofs.lemmas.Bool.{cond-true, cond-false}
 use Rattle.ddl_tokens.specs.declared.token.TokenKind.{TokenKind}
 use Rattle.ddl_tokens.specs.declared.token.TokenKind.TheVariants.{Word, Number, String}
-use Rattle.ddl_tokens.specs.declared.fault.SyntaxFault.{SyntaxFault}
-use Rattle.ddl_tokens.specs.declared.fault.SyntaxFault.TheVariants.{Unexpected, UnknownSetting, Unsupported}
+use Rattle.ddl_tokens.specs.declared.fault.SyntaxFault.TheVariants.{Unexpected, Unsupported}
 use Rattle.ddl_tokens.specs.declared.letters.LetterCase.TheVariants.{Any}
 use Rattle.ddl_tokens.specs.Letters.{same_letters}
 use Rattle.ddl_tokens.specs.Tokens.{Token}
 use Rattle.ddl_tokens.specs.Reading.{◌>>=◌, is_keyword, is_the_sign, is_word, is_name, is_number, is_string, of_kind, passes}
-use Rattle.ddl_tokens.specs.Laws.{Grammar, Stopping, first, place_of, Anyhow, Lawful, IsKeyword, IsSign, Then, Either, Made, Optional, OptionalStops}
+use Rattle.ddl_tokens.specs.Laws.{first, Anyhow, Lawful, IsKeyword, IsSign, Then, Either, Made, Optional, OptionalStops}
 use Rattle.ddl_tokens.specs.Lists.{Step, next_once, once_of, kind_at, repeat, BeginsNone}
-use Rattle.ddl_tokens.proofs.Laws.{Passes, Fails, by_token, bytes, first_passes, headed, judged_ok, keyword, keywords_apart, made, optional, sign, signs_apart, stopping, test_cases, then, then_after}
+use Rattle.ddl_tokens.proofs.Laws.{Passes, Fails, by_token, bytes, headed, judged_ok, keyword, keywords_apart, made, optional, sign, signs_apart, stopping, test_cases, then, then_after}
 use Rattle.ddl_tokens.proofs.Once.{in_any_order}
-use Rattle.dict_schema.specs.declared.definition.Lifetime.{Lifetime}
 use Rattle.ddl_clauses.specs.declared.clause.Clause.{Clause}
 use Rattle.ddl_clauses.specs.declared.clause.Clause.TheVariants as clause
 use Rattle.ddl_clauses.specs.declared.clause.ClauseKind.{ClauseKind}
 use Rattle.ddl_clauses.specs.declared.clause.ClauseKind.TheVariants as kind
-use Rattle.ddl_clauses.specs.declared.layouts.LayoutName.{LayoutName}
 use Rattle.ddl_clauses.specs.declared.settings.Owner.{Owner}
 use Rattle.ddl_clauses.specs.declared.settings.Owner.TheVariants.{Dictionary, Function}
 use Rattle.ddl_clauses.specs.declared.settings.Section.{Section}
 use Rattle.ddl_clauses.specs.declared.settings.Setting.{Setting}
 use Rattle.ddl_clauses.specs.Settings.{source_section, wanted_settings}
-use Rattle.ddl_clauses.specs.Choices.{chosen_at, meant_by, source_kind_in, whole_in, most_whole, most_short}
+use Rattle.ddl_clauses.specs.Choices.{chosen_at, meant_by, source_kind_in, most_whole, most_short}
 use Rattle.ddl_clauses.specs.Layouts.{all_layouts, layout_named, layout_section}
 use Rattle.ddl_clauses.specs.SettingLists.{settings_in_brackets_at}
-use Rattle.ddl_clauses.specs.Clauses.{source, layout, lifetime, range, or_empty, has_some, clause_number, number_of_clause, wanted_clauses, clause_kind, written_function}
+use Rattle.ddl_clauses.specs.Clauses.{source, layout, lifetime, range, or_empty, has_some, clause_number, number_of_clause, wanted_clauses, begun_clause, written_function}
 use Rattle.ddl_clauses.specs.Reading.{dictionary_clauses_at, short_at, source_at, layout_settings_at, layout_at, min_max_at, max_min_at, bounds_at, lifetime_at, range_at, output_settings_at, comment_clause_at, dictionary_clause_at, clause_kind_ahead, next_dictionary_clause, output_if_there_at, written_function_at}
 use Rattle.ddl_clauses.specs.Grammar.{IsChosen, IsWholeUpTo, AreSettingsInBrackets, IsSource, LeftOutUnless, IsLayout, IsMinMax, IsMaxMin, AreBounds, IsLifetime, IsRange, IsOutputSettings, IsCommentClause, IsDictionaryClause, AreDictionaryClauses, NoClauseFollows, IsWrittenFunction, FunctionStops}
 use Rattle.ddl_clauses.specs.Parts.{dictionary_parts}
@@ -228,7 +225,7 @@ clause_first kind.Comment a own h = keyword_first (codes "COMMENT") h.from own h
 past : (word other : List ℕ) (t : Token) (a b : Option ClauseKind) → same_letters Any word other ≡ false → is_keyword word t ≡ true → cond (is_keyword other t) a b ≡ b
 past word other t a b apart e = cond-false (is_keyword other t) a b (keywords_apart word other t apart e)
 
-kind_of_word : (k : ClauseKind) (t : Token) → is_keyword (clause_word k) t ≡ true → clause_kind t ≡ Some k
+kind_of_word : (k : ClauseKind) (t : Token) → is_keyword (clause_word k) t ≡ true → begun_clause t ≡ Some k
 unfolding same_letters
 kind_of_word kind.Source t e = cond-true (is_keyword (codes "SOURCE") t) _ _ e
 kind_of_word kind.Layout t e = past (codes "LAYOUT") (codes "SOURCE") t _ _ refl e ∙ cond-true (is_keyword (codes "LAYOUT") t) _ _ e
@@ -254,20 +251,20 @@ clause_numbered kind.Comment a own h = ap number_of_clause h.is
 
 -- ---- the list of clauses
 
-kind_ahead_is : (ts : List Token) → kind_at (λ t. Ok (clause_kind t)) ts ≡ Ok (clause_kind_ahead ts)
+kind_ahead_is : (ts : List Token) → kind_at (λ t. Ok (begun_clause t)) ts ≡ Ok (clause_kind_ahead ts)
 unfolding kind_at clause_kind_ahead passes
 kind_ahead_is [] = refl
 kind_ahead_is (t ∷ ts) = refl
 
-step_is : (before : List Clause) (ts : List Token) → next_once (λ t. Ok (clause_kind t)) dictionary_clause_at clause_number number_of_clause wanted_clauses before ts ≡ next_dictionary_clause before ts
+step_is : (before : List Clause) (ts : List Token) → next_once (λ t. Ok (begun_clause t)) dictionary_clause_at clause_number number_of_clause wanted_clauses before ts ≡ next_dictionary_clause before ts
 unfolding next_once next_dictionary_clause
 step_is before ts = ap (λ r. r >>= λ o. once_of dictionary_clause_at clause_number number_of_clause wanted_clauses before ts o) (kind_ahead_is ts)
 
-none_follows : (a : List Clause) (o : Option Token) → BeginsNone (λ t. Ok (clause_kind t)) a o → NoClauseFollows a o
+none_follows : (a : List Clause) (o : Option Token) → BeginsNone (λ t. Ok (begun_clause t)) a o → NoClauseFollows a o
 none_follows a None h = tt
 none_follows a (Some t) h = cc
 
-follows_none : (a : List Clause) (o : Option Token) → NoClauseFollows a o → BeginsNone (λ t. Ok (clause_kind t)) a o
+follows_none : (a : List Clause) (o : Option Token) → NoClauseFollows a o → BeginsNone (λ t. Ok (begun_clause t)) a o
 follows_none a None h = tt
 follows_none a (Some t) h = ap (λ k. Ok k) h
 

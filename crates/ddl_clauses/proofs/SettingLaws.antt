@@ -1,22 +1,21 @@
 -- Settings are read by their grammar.
-use Rattle.std.proofs.Common.{◌≡◌, ℕ, zero, suc, ◌<◌, Bool, true, false, cond, not, ◌&&◌, List, [], ◌∷◌, ◌++◌, map, length, Option, Some, None, Result, Ok, Err, refl, sym, ap, subst, ◌∙◌, ◌⊎◌, inl, inr, append_assoc, append-nil}
-use Rattle.std.specs.Prelude.{codes, IsTrue, ◌==◌}
+use Rattle.std.proofs.Common.{◌≡◌, ℕ, zero, suc, Bool, true, false, cond, not, ◌&&◌, List, [], ◌∷◌, ◌++◌, map, Option, Some, None, Ok, Err, refl, sym, ap, subst, ◌∙◌, ◌⊎◌, inl, inr, append-nil}
+use Rattle.std.specs.Prelude.{codes, ◌==◌}
 use mathlib.Core.Path.{fun_ext}
 use mathlib.Core.Bool.{Bool-set}
-use Rattle.std.proofs.lemmas.Bool.{cond-true, cond-false, cases_Bool, eq-eqb, eqb-true}
-use Rattle.ddl_tokens.specs.declared.letters.LetterCase.{LetterCase}
+use Rattle.std.proofs.lemmas.Bool.{cond-true, cond-false, cases_Bool, eqb-true}
 use Rattle.ddl_tokens.specs.declared.letters.LetterCase.TheVariants.{Any}
 use Rattle.ddl_tokens.specs.declared.token.TokenKind.TheVariants.{Word, QuotedWord, Number, String, Sign}
 use Rattle.ddl_tokens.specs.declared.token.TokenKind.{TokenKind}
 use Rattle.ddl_tokens.specs.declared.fault.SyntaxFault.{SyntaxFault}
 use Rattle.ddl_tokens.specs.declared.fault.SyntaxFault.TheVariants.{Unexpected, UnknownSetting, Unsupported}
-use Rattle.ddl_tokens.specs.Letters.{folded, same_letters}
+use Rattle.ddl_tokens.specs.Letters.{same_letters}
 use Rattle.ddl_tokens.specs.Tokens.{Token}
-use Rattle.ddl_tokens.specs.Reading.{◌>>=◌, Read, is_name, is_number, is_string, is_keyword, is_signed, is_the_sign, passes, bytes_ahead}
-use Rattle.ddl_tokens.specs.Laws.{first, place_of, Anyhow, Lawful, IsSign, Made, Then}
+use Rattle.ddl_tokens.specs.Reading.{◌>>=◌, is_name, is_number, is_string, is_keyword, is_signed, is_the_sign, passes, bytes_ahead}
+use Rattle.ddl_tokens.specs.Laws.{first, place_of, Anyhow, Lawful, IsSign, Made}
 use Rattle.ddl_tokens.specs.Lists.{Kind, Step, has_number, has_all, kind_at, once_of, next_once, repeat, AddsOnce, InAnyOrder, BeginsNone, Many, none, more}
-use Rattle.ddl_tokens.proofs.Laws.{bytes, first_passes, judged_ok, keywords_apart, made, sign, stopping, test_cases, then, then_after}
-use Rattle.ddl_tokens.proofs.Once.{in_any_order}
+use Rattle.ddl_tokens.proofs.Laws.{bytes, judged_ok, keywords_apart, made, same_itself, sign, stopping, test_cases, then, then_after}
+use Rattle.ddl_tokens.proofs.Once.{in_any_order, stays, there}
 use Rattle.ddl_tokens.proofs.Repeats.{many_then}
 use Rattle.ddl_clauses.specs.declared.settings.SettingName.{SettingName}
 use Rattle.ddl_clauses.specs.declared.settings.SettingName.TheVariants as name
@@ -25,24 +24,18 @@ use Rattle.ddl_clauses.specs.declared.settings.Form.TheVariants as form
 use Rattle.ddl_clauses.specs.declared.settings.Group.TheVariants as group
 use Rattle.ddl_clauses.specs.declared.settings.Section.{Section}
 use Rattle.ddl_clauses.specs.declared.settings.Section.TheVariants as section
-use Rattle.ddl_clauses.specs.declared.settings.SettingValue.{SettingValue}
 use Rattle.ddl_clauses.specs.declared.settings.SettingValue.TheVariants as value
 use Rattle.ddl_clauses.specs.declared.settings.Setting.{Setting}
-use Rattle.ddl_clauses.specs.Settings.{setting_number, setting_text, all_settings, form_of, group_of, has_group, wanted_settings}
+use Rattle.ddl_clauses.specs.Settings.{setting_number, setting_text, all_settings, form_of, group_of, has_group}
 use Rattle.ddl_clauses.specs.Choices.{chosen_at, meant_by, or_fault, unless_true, no_flag_meant, is_written, is_plain_value, flag_in, format_in, strategy_in, whole_in, most_whole, most_short, bare_name_in, word_in}
-use Rattle.ddl_clauses.specs.SettingLists.{setting, setting_at, setting_value_at, setting_named, if_taken, taken_setting, number_of_setting, has_setting, wanted_numbers, or_unknown, setting_kind_at, next_setting, has_field_for_lag, if_passing, settings_at, settings_in_brackets_at}
+use Rattle.ddl_clauses.specs.SettingLists.{setting, setting_at, setting_value_at, setting_named, if_taken, taken_setting, number_of_setting, has_setting, wanted_numbers, or_unknown, setting_kind_at, next_setting, has_field_for_lag, settings_at, settings_in_brackets_at}
 use Rattle.ddl_clauses.specs.Grammar.{IsChosen, IsWholeUpTo, IsSettingValue, IsSetting, SettingOf, AreSettings, AreSettingsInBrackets}
 use Rattle.ddl_clauses.proofs.Chosen.{chosen, meant_placed, tested_law}
 
 -- ---- one setting
 
-same_word : (case : LetterCase) (word : List ℕ) → same_letters case word word ≡ true
-unfolding same_letters
-same_word case [] = refl
-same_word case (b ∷ word) = cond-true (folded case b == folded case b) _ _ (eq-eqb (folded case b) (folded case b) refl) ∙ same_word case word
-
 pub word_law : {Before : Option Token → Type 0} (word : List ℕ) → Lawful Before (chosen_at is_name (meant_by UnknownSetting (word_in word))) (IsChosen is_name (meant_by UnknownSetting (word_in word))) Anyhow
-word_law word = chosen is_name (meant_by UnknownSetting (word_in word)) refl (meant_placed UnknownSetting (word_in word) (λ p. refl)) Word word tt refl (ap (λ (b : Bool). or_fault (UnknownSetting 0) (cond b (Some tt) None)) (same_word Any word))
+word_law word = chosen is_name (meant_by UnknownSetting (word_in word)) refl (meant_placed UnknownSetting (word_in word) (λ p. refl)) Word word tt refl (ap (λ (b : Bool). or_fault (UnknownSetting 0) (cond b (Some tt) None)) (same_itself Any word))
 
 pub whole_law : {Before : Option Token → Type 0} (most : ℕ) → whole_in most (codes "0") ≡ Some 0 → Lawful Before (chosen_at is_number (meant_by Unexpected (whole_in most))) (IsWholeUpTo most) Anyhow
 whole_law most e = chosen is_number (meant_by Unexpected (whole_in most)) refl (meant_placed Unexpected (whole_in most) (λ p. refl)) Number (codes "0") 0 refl (ap (or_fault (Unexpected 0)) e)
@@ -247,19 +240,6 @@ module _ (section : Section) where
   begins_none a (Some t) h = cond-false (is_name t.kind) _ _ h
 
   -- ---- a lag only beside an update field
-
-  there : {A : Type 0} (number : A → ℕ) (n : ℕ) (a : List A) (x : A) → number x ≡ n → has_number number n (a ++ x ∷ []) ≡ true
-  unfolding has_number
-  there number n [] x e = cond-true (number x == n) _ _ (eq-eqb (number x) n e)
-  there number n (y ∷ a) x e = elim (cases_Bool (number y == n)) [ inl h ↦ cond-true (number y == n) _ _ h | inr h ↦ cond-false (number y == n) _ _ h ∙ there number n a x e ]
-
-  stays : {A : Type 0} (number : A → ℕ) (n : ℕ) (a : List A) (x : A) → has_number number n a ≡ true → has_number number n (a ++ x ∷ []) ≡ true
-  unfolding has_number
-  stays number n [] x e = absurd cc
-  stays number n (y ∷ a) x e = elim (cases_Bool (number y == n)) [
-    | inl h ↦ cond-true (number y == n) _ _ h
-    | inr h ↦ cond-false (number y == n) _ _ h ∙ stays number n a x (sym (cond-false (number y == n) true (has_number number n a) h) ∙ e)
-  ]
 
   all_stay : {A : Type 0} (number : A → ℕ) (ns : List ℕ) (a : List A) (x : A) → has_all number ns a ≡ true → has_all number ns (a ++ x ∷ []) ≡ true
   unfolding has_all

@@ -1,8 +1,8 @@
 -- A whole number that is read as a UInt64 and bounded.
-use Rattle.std.proofs.Common.{◌≡◌, ◌≢◌, ℕ, ◌<◌, ◌≤◌, ◌^◌, Bool, true, false, cond, List, [], ◌∷◌, Option, Some, None, Result, Ok, Err, refl, sym, ap, ◌∙◌, arith, inl, inr}
+use Rattle.std.proofs.Common.{◌≡◌, ◌≢◌, ℕ, ◌<◌, ◌^◌, Bool, true, false, cond, List, Option, Some, None, Result, Ok, Err, refl, sym, ap, ◌∙◌, arith}
 use Rattle.std.specs.Prelude.{nat_lt, nat_le, if◌then◌else◌}
 use Rattle.std.specs.Option.{option_and_then}
-use Rattle.std.proofs.lemmas.Bool.{cond-true, cond-false, cases_Bool}
+use Rattle.std.proofs.lemmas.Bool.{cond-false}
 use Rattle.std.proofs.lemmas.Bool.Decides.{nat_tests}
 use Rattle.dict_value.specs.declared.value.ColType.TheVariants.{UInt64}
 use Rattle.dict_value.specs.declared.value.Value.{Value}
@@ -10,7 +10,7 @@ use Rattle.dict_value.specs.declared.value.Value.TheVariants.{U}
 use Rattle.dict_value.specs.declared.value.BadValue.{BadValue}
 use Rattle.dict_value.specs.declared.value.BadValue.TheVariants as bad
 use Rattle.dict_value.specs.Memory.{UnlessNoMemory}
-use Rattle.dict_value.specs.Numbers.{unsigned_in, unsigned_of, given, below}
+use Rattle.dict_value.specs.Numbers.{unsigned_in, given, below}
 use Rattle.dict_value.specs.Values.{text_reading, as_value, IsStringText}
 use Rattle.ddl_clauses.specs.Choices.{whole_in, whole_from}
 

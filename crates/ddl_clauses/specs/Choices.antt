@@ -17,10 +17,10 @@ use Rattle.ddl_tokens.specs.declared.letters.LetterCase.TheVariants.{Any, AsWrit
 use Rattle.ddl_tokens.specs.declared.token.TokenKind.{TokenKind}
 use Rattle.ddl_tokens.specs.declared.token.TokenKind.TheVariants.{Word, QuotedWord, Number, String}
 use Rattle.ddl_tokens.specs.declared.fault.SyntaxFault.{SyntaxFault}
-use Rattle.ddl_tokens.specs.declared.fault.SyntaxFault.TheVariants.{Unexpected, UnknownSetting, Unsupported}
+use Rattle.ddl_tokens.specs.declared.fault.SyntaxFault.TheVariants.{Unexpected, Unsupported}
 use Rattle.ddl_tokens.specs.Letters.{is_word_start, is_word_byte, same_letters}
 use Rattle.ddl_tokens.specs.Tokens.{Token}
-use Rattle.ddl_tokens.specs.Reading.{◌>>=◌, Read, kind_ahead, place_ahead, bytes_ahead, unexpected}
+use Rattle.ddl_tokens.specs.Reading.{◌>>=◌, Read, kind_ahead, place_ahead, bytes_ahead, is_number, unexpected}
 
 -- what the bytes of a token at a place stand for, or the fault of others
 abbrev pub Meaning : Type 0 → Type 0
@@ -106,6 +106,10 @@ most_whole = 18446744073709551615
 
 abbrev pub most_short : ℕ
 most_short = 4294967295
+
+-- such a number, read
+abbrev pub whole_up_to_at : ℕ → List Token → Read ℕ
+whole_up_to_at most ts = chosen_at is_number (meant_by Unexpected (whole_in most)) ts
 
 -- a letter or _, then letters, digits and _
 abbrev pub has_bare_form : List ℕ → Bool

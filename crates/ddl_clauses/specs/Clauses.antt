@@ -56,8 +56,8 @@ abbrev pub wanted_clauses : List ℕ
 wanted_clauses = map clause_number (kind.Source ∷ kind.Layout ∷ [])
 
 -- the kind of the clause that a token begins
-abbrev pub clause_kind : Token → Option ClauseKind
-clause_kind t =
+abbrev pub begun_clause : Token → Option ClauseKind
+begun_clause t =
     if is_keyword (codes "SOURCE") t then Some kind.Source
     else if is_keyword (codes "LAYOUT") t then Some kind.Layout
     else if is_keyword (codes "LIFETIME") t then Some kind.Lifetime

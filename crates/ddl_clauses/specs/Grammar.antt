@@ -1,17 +1,16 @@
 -- The grammar of the clauses: which tokens are which clauses.
-use Rattle.std.specs.Prelude.{◌≡◌, ℕ, Bool, true, false, IsTrue, List, [], ◌∷◌, ◌++◌, codes, Option, Some, None, Result}
+use Rattle.std.specs.Prelude.{◌≡◌, ℕ, Bool, true, false, IsTrue, List, ◌++◌, codes, Option, Some, None, Result}
 use Rattle.std.specs.Prelude.{Ok, Err}
 use Rattle.dict_value.specs.Memory.{UnlessNoMemory}
 use Rattle.ddl_tokens.specs.declared.fault.ReadFault.{ReadFault}
 use Rattle.ddl_tokens.specs.declared.fault.ReadFault.TheVariants as fault
-use Rattle.dict_schema.specs.declared.definition.Kind.{Kind}
 use Rattle.dict_schema.specs.declared.definition.Lifetime.{Lifetime}
-use Rattle.dict_schema.specs.declared.definition.RangeOf.{RangeOf}
 use Rattle.ddl_tokens.specs.declared.token.TokenKind.{TokenKind}
 use Rattle.ddl_tokens.specs.declared.fault.SyntaxFault.TheVariants.{Unexpected, UnknownSetting, Unsupported}
 use Rattle.ddl_tokens.specs.Tokens.{Token}
 use Rattle.ddl_tokens.specs.Reading.{is_keyword, is_name, is_number, is_string}
-use Rattle.ddl_tokens.specs.Laws.{Grammar, Stopping, Anyhow, Begins, OptionalStops, first, IsOne, IsKeyword, IsSign, IsBytes, Then, Either, Made, Optional}
+use Rattle.ddl_tokens.specs.Laws.{Grammar, Stopping, Anyhow, Begins, OptionalStops, first, IsOne, IsKeyword, IsSign}
+use Rattle.ddl_tokens.specs.Laws.{IsBytes, Then, Either, Made, Optional}
 use Rattle.ddl_tokens.specs.Lists.{InAnyOrder}
 use Rattle.ddl_clauses.specs.declared.settings.SettingName.{SettingName}
 use Rattle.ddl_clauses.specs.declared.settings.Form.{Form}
@@ -29,14 +28,16 @@ use Rattle.ddl_clauses.specs.declared.clause.ClauseKind.TheVariants as kind
 use Rattle.ddl_clauses.specs.declared.clause.RangeNames.{RangeNames}
 use Rattle.ddl_clauses.specs.declared.clause.WrittenLayout.{WrittenLayout}
 use Rattle.ddl_clauses.specs.declared.clause.WrittenSource.{WrittenSource}
-use Rattle.ddl_clauses.specs.Settings.{setting_number, setting_text, form_of, group_of, has_group, wanted_settings, source_section}
+use Rattle.ddl_clauses.specs.Settings.{setting_number, setting_text, form_of, group_of, has_group, wanted_settings}
+use Rattle.ddl_clauses.specs.Settings.{source_section}
 use Rattle.ddl_clauses.specs.Choices.{Meaning, choice, meant_by, is_written, is_plain_value, flag_in, no_flag_meant}
 use Rattle.ddl_clauses.specs.Choices.{format_in, strategy_in, whole_in, most_whole, most_short, bare_name_in}
 use Rattle.ddl_clauses.specs.Choices.{source_kind_in, word_in}
 use Rattle.ddl_clauses.specs.Layouts.{all_layouts, layout_named, layout_section}
 use Rattle.ddl_clauses.specs.SettingLists.{setting, number_of_setting, wanted_numbers, has_field_for_lag}
-use Rattle.ddl_clauses.specs.Clauses.{source, layout, lifetime, range, or_empty, has_some, clause_number, number_of_clause}
-use Rattle.ddl_clauses.specs.Clauses.{wanted_clauses, clause_kind, WrittenFunction, written_function}
+use Rattle.ddl_clauses.specs.Clauses.{source, layout, lifetime, range, or_empty, has_some, clause_number}
+use Rattle.ddl_clauses.specs.Clauses.{number_of_clause}
+use Rattle.ddl_clauses.specs.Clauses.{wanted_clauses, begun_clause, WrittenFunction, written_function}
 
 -- one token of some kind, whose bytes mean this value
 abbrev pub IsChosen : {A : Type 0} → (TokenKind → Bool) → Meaning A → Grammar A
@@ -98,14 +99,18 @@ abbrev pub LeftOutUnless : {A : Type 0} → Bool → Grammar A → Grammar (Opti
 LeftOutUnless true Own = Made (λ a. Some a) Own
 LeftOutUnless false Own = Optional Own
 
--- LAYOUT ( name [ ( settings ) ] ): the settings may be left out where none is wanted
+-- the settings of a layout in brackets, which may be left out where none is wanted
+abbrev pub IsLayoutSettings : Section → Grammar (Option (List Setting))
+IsLayoutSettings section = LeftOutUnless (has_some (wanted_settings section)) (AreSettingsInBrackets section)
+
+-- LAYOUT ( name [ ( settings ) ] )
 abbrev pub IsLayout : Grammar WrittenLayout
 IsLayout =
     Then (IsKeyword (codes "LAYOUT")) (λ _.
     Then (IsSign 40) (λ _.
     Then (IsChosen is_name (meant_by Unsupported (layout_named all_layouts))) (λ name.
-    Then (LeftOutUnless (has_some (wanted_settings (layout_section name))) (AreSettingsInBrackets (layout_section name)))
-    (λ settings. Made (λ _. layout name (or_empty settings)) (IsSign 41)))))
+    Then (IsLayoutSettings (layout_section name)) (λ settings.
+    Made (λ _. layout name (or_empty settings)) (IsSign 41)))))
 
 -- MIN number MAX number
 abbrev pub IsMinMax : Grammar Lifetime
@@ -176,7 +181,7 @@ AreDictionaryClauses = InAnyOrder clause_number number_of_clause IsDictionaryCla
 -- they stop where a token begins no clause
 abbrev pub NoClauseFollows : {A : Type 0} → Stopping A
 NoClauseFollows a None = Unit {0}
-NoClauseFollows a (Some t) = clause_kind t ≡ None
+NoClauseFollows a (Some t) = begun_clause t ≡ None
 
 -- the source of a function [ SETTINGS .. ]
 abbrev pub IsWrittenFunction : Grammar WrittenFunction

@@ -3,7 +3,6 @@ use Rattle.std.specs.Prelude.{ℕ, ◌==◌, min, Bool, true, false, List, [], �
 use Rattle.dict_value.specs.declared.value.Format.{Format}
 use Rattle.dict_value.specs.declared.value.Format.TheVariants.{Tab}
 use Rattle.dict_schema.specs.declared.definition.CacheSet.{CacheSet}
-use Rattle.dict_schema.specs.declared.definition.Kind.{Kind}
 use Rattle.dict_schema.specs.declared.definition.Kind.TheVariants.{Executable}
 use Rattle.dict_schema.specs.declared.definition.Layout.{Layout}
 use Rattle.dict_schema.specs.declared.definition.Layout.TheVariants as layout
@@ -34,7 +33,8 @@ use Rattle.ddl_clauses.specs.declared.settings.SettingValue.{SettingValue}
 use Rattle.ddl_clauses.specs.declared.settings.SettingValue.TheVariants as value
 use Rattle.ddl_clauses.specs.Settings.{setting_number}
 use Rattle.ddl_clauses.specs.Choices.{most_short}
-use Rattle.ddl_clauses.specs.Clauses.{WrittenFunction, lifetime, source, layout as written_layout, clause_number, number_of_clause}
+use Rattle.ddl_clauses.specs.Clauses.{WrittenFunction, lifetime, source, layout as written_layout, clause_number}
+use Rattle.ddl_clauses.specs.Clauses.{number_of_clause}
 
 -- ---- the value of a setting, or its default
 
@@ -102,7 +102,9 @@ source_with owner written =
       end_s = short_or 10 (value_of_setting name.TerminationTimeout settings);
       pool_size = kept_short (pool_size_in settings);
       execution_s = short_or 10 (value_of_setting name.ExecutionTime settings);
-      update = update_with_lag (short_or 1 (value_of_setting name.UpdateLag settings)) (value_of_setting name.UpdateField settings);
+      update =
+          update_with_lag (short_or 1 (value_of_setting name.UpdateLag settings))
+          (value_of_setting name.UpdateField settings);
     }
 
 -- ---- layouts

@@ -1,10 +1,10 @@
 -- The clauses, as they are read.
-use Rattle.std.specs.Prelude.{ℕ, Bool, true, false, List, [], ◌∷◌, codes, map, Option, Some, None, Ok, Err, if◌then◌else◌}
-use Rattle.dict_schema.specs.declared.definition.Kind.{Kind}
+use Rattle.std.specs.Prelude.{ℕ, List, [], codes, Option, Some, None, Ok, if◌then◌else◌}
 use Rattle.dict_schema.specs.declared.definition.Lifetime.{Lifetime}
-use Rattle.ddl_tokens.specs.declared.fault.SyntaxFault.TheVariants.{Unexpected, UnknownSetting, Unsupported}
+use Rattle.ddl_tokens.specs.declared.fault.SyntaxFault.TheVariants.{UnknownSetting, Unsupported}
 use Rattle.ddl_tokens.specs.Tokens.{Token}
-use Rattle.ddl_tokens.specs.Reading.{◌>>=◌, Read, passes, of_kind, is_keyword, is_name, is_number, is_string, is_the_sign}
+use Rattle.ddl_tokens.specs.Reading.{◌>>=◌, Read, passes, of_kind, is_keyword, is_name, is_number, is_string}
+use Rattle.ddl_tokens.specs.Reading.{is_the_sign}
 use Rattle.ddl_tokens.specs.Reading.{keyword_at, sign_at, bytes_at}
 use Rattle.ddl_tokens.specs.Lists.{Step, once_of, repeat}
 use Rattle.ddl_clauses.specs.declared.clause.Clause.{Clause}
@@ -14,7 +14,6 @@ use Rattle.ddl_clauses.specs.declared.clause.ClauseKind.TheVariants as kind
 use Rattle.ddl_clauses.specs.declared.clause.RangeNames.{RangeNames}
 use Rattle.ddl_clauses.specs.declared.clause.WrittenLayout.{WrittenLayout}
 use Rattle.ddl_clauses.specs.declared.clause.WrittenSource.{WrittenSource}
-use Rattle.ddl_clauses.specs.declared.layouts.LayoutName.{LayoutName}
 use Rattle.ddl_clauses.specs.declared.parts.DictionaryParts.{DictionaryParts}
 use Rattle.ddl_clauses.specs.declared.parts.FunctionParts.{FunctionParts}
 use Rattle.ddl_clauses.specs.declared.settings.Owner.{Owner}
@@ -22,7 +21,7 @@ use Rattle.ddl_clauses.specs.declared.settings.Owner.TheVariants.{Dictionary, Fu
 use Rattle.ddl_clauses.specs.declared.settings.Section.{Section}
 use Rattle.ddl_clauses.specs.declared.settings.Setting.{Setting}
 use Rattle.ddl_clauses.specs.Settings.{source_section, wanted_settings}
-use Rattle.ddl_clauses.specs.Choices.{chosen_at, meant_by, source_kind_in, whole_in, most_whole, most_short, word_in}
+use Rattle.ddl_clauses.specs.Choices.{chosen_at, meant_by, source_kind_in, whole_up_to_at, most_whole, most_short, word_in}
 use Rattle.ddl_clauses.specs.Layouts.{all_layouts, layout_named, layout_section}
 use Rattle.ddl_clauses.specs.SettingLists.{settings_in_brackets_at}
 use Rattle.ddl_clauses.specs.Clauses.{source, layout, lifetime, range, clause_number, number_of_clause}
@@ -30,7 +29,7 @@ use Rattle.ddl_clauses.specs.Clauses.{wanted_clauses, or_empty, has_some, Writte
 use Rattle.ddl_clauses.specs.Parts.{dictionary_parts, function_parts}
 
 unfoldable pub short_at : List Token → Read ℕ
-short_at ts = chosen_at is_number (meant_by Unexpected (whole_in most_short)) ts
+short_at ts = whole_up_to_at most_short ts
 
 -- SOURCE ( kind ( settings ) )
 unfoldable pub source_at : Owner → List Token → Read WrittenSource
@@ -112,7 +111,7 @@ output_settings_at ts = do
   begin ← sign_at 40 word.1
   name ← chosen_at is_name (meant_by UnknownSetting (word_in (codes "max_output_bytes"))) begin.1
   equal ← sign_at 61 name.1
-  output ← chosen_at is_number (meant_by Unexpected (whole_in most_whole)) equal.1
+  output ← whole_up_to_at most_whole equal.1
   end ← sign_at 41 output.1
   Ok (output.0, end.1)
 

@@ -1,11 +1,12 @@
 -- Lists of settings, as they are read.
-use Rattle.std.specs.Prelude.{ℕ, Bool, true, false, List, [], ◌∷◌, map, Option, Some, None, Result, Ok, Err}
+use Rattle.std.specs.Prelude.{ℕ, Bool, true, List, [], ◌∷◌, map, Option, Some, None, Ok, Err}
 use Rattle.std.specs.Prelude.{if◌then◌else◌}
 use Rattle.ddl_tokens.specs.declared.letters.LetterCase.TheVariants.{Any}
 use Rattle.ddl_tokens.specs.declared.fault.SyntaxFault.TheVariants.{Unexpected, UnknownSetting, Unsupported}
 use Rattle.ddl_tokens.specs.Letters.{same_letters}
 use Rattle.ddl_tokens.specs.Tokens.{Token}
-use Rattle.ddl_tokens.specs.Reading.{◌>>=◌, Read, passes, of_kind, is_name, is_string, is_number, place_ahead, bytes_ahead}
+use Rattle.ddl_tokens.specs.Reading.{◌>>=◌, Read, passes, of_kind, is_name, is_string, place_ahead}
+use Rattle.ddl_tokens.specs.Reading.{bytes_ahead}
 use Rattle.ddl_tokens.specs.Reading.{bytes_at, sign_at, unexpected}
 use Rattle.ddl_tokens.specs.Lists.{Kind, Step, has_number, once_of, repeat}
 use Rattle.ddl_clauses.specs.declared.settings.SettingName.{SettingName}
@@ -16,9 +17,11 @@ use Rattle.ddl_clauses.specs.declared.settings.Section.{Section}
 use Rattle.ddl_clauses.specs.declared.settings.SettingValue.{SettingValue}
 use Rattle.ddl_clauses.specs.declared.settings.SettingValue.TheVariants as value
 use Rattle.ddl_clauses.specs.declared.settings.Setting.{Setting}
-use Rattle.ddl_clauses.specs.Settings.{setting_number, setting_text, all_settings, form_of, group_of, has_group, wanted_settings}
-use Rattle.ddl_clauses.specs.Choices.{chosen_at, meant_by, is_written, is_plain_value, flag_in, no_flag_meant, format_in}
-use Rattle.ddl_clauses.specs.Choices.{strategy_in, whole_in, most_whole, most_short, bare_name_in, word_in}
+use Rattle.ddl_clauses.specs.Settings.{setting_number, setting_text, all_settings, form_of, group_of, has_group}
+use Rattle.ddl_clauses.specs.Settings.{wanted_settings}
+use Rattle.ddl_clauses.specs.Choices.{chosen_at, meant_by, is_written, is_plain_value, flag_in, no_flag_meant}
+use Rattle.ddl_clauses.specs.Choices.{format_in}
+use Rattle.ddl_clauses.specs.Choices.{strategy_in, whole_up_to_at, most_whole, most_short, bare_name_in, word_in}
 
 -- ---- one setting
 
@@ -39,13 +42,17 @@ taken_setting section bytes = if_taken section (setting_named all_settings bytes
 -- a value by its form
 unfoldable pub setting_value_at : Form → List Token → Read SettingValue
 setting_value_at form.Text ts = bytes_at is_string ts >>= λ x. Ok (value.Text x.0, x.1)
-setting_value_at form.Format ts = chosen_at is_written (meant_by Unsupported format_in) ts >>= λ x. Ok (value.Format x.0, x.1)
-setting_value_at form.Flag ts = chosen_at is_plain_value (meant_by Unexpected flag_in) ts >>= λ x. Ok (value.Flag x.0, x.1)
+setting_value_at form.Format ts = chosen_at is_written (meant_by Unsupported format_in) ts
+    >>= λ x. Ok (value.Format x.0, x.1)
+setting_value_at form.Flag ts = chosen_at is_plain_value (meant_by Unexpected flag_in) ts
+    >>= λ x. Ok (value.Flag x.0, x.1)
 setting_value_at form.NoFlag ts = chosen_at is_plain_value no_flag_meant ts >>= λ x. Ok (value.Flag x.0, x.1)
-setting_value_at form.Whole ts = chosen_at is_number (meant_by Unexpected (whole_in most_whole)) ts >>= λ x. Ok (value.Whole x.0, x.1)
-setting_value_at form.Short ts = chosen_at is_number (meant_by Unexpected (whole_in most_short)) ts >>= λ x. Ok (value.Short x.0, x.1)
-setting_value_at form.Strategy ts = chosen_at is_string (meant_by Unexpected strategy_in) ts >>= λ x. Ok (value.Strategy x.0, x.1)
-setting_value_at form.BareName ts = chosen_at is_written (meant_by Unexpected bare_name_in) ts >>= λ x. Ok (value.Text x.0, x.1)
+setting_value_at form.Whole ts = whole_up_to_at most_whole ts >>= λ x. Ok (value.Whole x.0, x.1)
+setting_value_at form.Short ts = whole_up_to_at most_short ts >>= λ x. Ok (value.Short x.0, x.1)
+setting_value_at form.Strategy ts = chosen_at is_string (meant_by Unexpected strategy_in) ts
+    >>= λ x. Ok (value.Strategy x.0, x.1)
+setting_value_at form.BareName ts = chosen_at is_written (meant_by Unexpected bare_name_in) ts
+    >>= λ x. Ok (value.Text x.0, x.1)
 
 abbrev pub setting : SettingName → SettingValue → Setting
 setting name value = record { name = name; value = value }
@@ -78,7 +85,8 @@ or_unknown place (Some name) = Ok (Some name)
 -- the setting that the token in hand begins: a word has to name one that the list takes
 unfoldable pub setting_kind_at : Section → List Token → Kind SettingName
 setting_kind_at section ts =
-    if passes (of_kind is_name) ts then or_unknown (place_ahead ts) (taken_setting section (bytes_ahead ts)) else Ok None
+    if passes (of_kind is_name) ts then or_unknown (place_ahead ts) (taken_setting section (bytes_ahead ts))
+    else Ok None
 
 unfoldable pub next_setting : Section → Step (List Setting)
 next_setting section before ts =

@@ -1,5 +1,5 @@
 -- The settings of sources and layouts: what they are named, and which list takes which.
-use Rattle.std.specs.Prelude.{ℕ, Bool, true, false, List, [], ◌∷◌, codes, map}
+use Rattle.std.specs.Prelude.{ℕ, Bool, true, false, List, [], ◌∷◌, codes}
 use Rattle.dict_schema.specs.declared.definition.Kind.{Kind}
 use Rattle.dict_schema.specs.declared.definition.Kind.TheVariants as kind
 use Rattle.ddl_clauses.specs.declared.settings.SettingName.{SettingName}

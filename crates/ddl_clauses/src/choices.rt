@@ -6,7 +6,8 @@ ghost use Rattle.ddl_tokens.specs.Reading.{Gives, kind_ahead, bytes_ahead, is_na
 ghost use Rattle.ddl_tokens.specs.declared.letters.LetterCase.TheVariants.{AsWritten};
 ghost use Rattle.ddl_tokens.specs.declared.fault.SyntaxFault.TheVariants.{Unexpected, UnknownSetting, Unsupported};
 ghost use Rattle.ddl_clauses.specs.Choices.{chosen_at, meant_by, is_written, is_plain_value, flag_in, no_flag_meant};
-ghost use Rattle.ddl_clauses.specs.Choices.{format_in, strategy_in, whole_from, whole_in, has_bare_form, bare_name_in};
+ghost use Rattle.ddl_clauses.specs.Choices.{format_in, strategy_in, whole_from, whole_in, whole_up_to_at, has_bare_form};
+ghost use Rattle.ddl_clauses.specs.Choices.{bare_name_in};
 ghost use Rattle.ddl_clauses.specs.Choices.{source_kind_in, word_in, most_whole, most_short};
 
 use ddl_tokens::{LetterCase, ReadFault, Reader, SyntaxFault, TokenKind};
@@ -104,7 +105,8 @@ fn format_in(r: &Reader<'_>) -> Option<Format>
 /// The name of a text form of rows, bare or in quotes.
 #[tactic(auto, using(crate::proofs::Ahead::written_goes_on), unfolding(crate::specs::Choices::chosen_at))]
 pub(crate) fn format(r: &mut Reader<'_>) -> Result<Format, ReadFault>
-    ensures value { Gives (λ format. format) result r.new (chosen_at is_written (meant_by Unsupported format_in) r.old) }
+    ensures value { Gives (λ format. format) result r.new
+        (chosen_at is_written (meant_by Unsupported format_in) r.old) }
     ensures shorter { OnOk result (length r.new < length r.old) }
 {
     if !sees_written(r) {
@@ -132,7 +134,8 @@ fn strategy_in(r: &Reader<'_>) -> Option<Strategy>
 /// A string that says which of several ranges counts.
 #[tactic(auto, using(crate::proofs::Ahead::sees_string_is, crate::proofs::Ahead::string_goes_on), unfolding(crate::specs::Choices::chosen_at))]
 pub(crate) fn strategy(r: &mut Reader<'_>) -> Result<Strategy, ReadFault>
-    ensures value { Gives (λ strategy. strategy) result r.new (chosen_at is_string (meant_by Unexpected strategy_in) r.old) }
+    ensures value { Gives (λ strategy. strategy) result r.new
+        (chosen_at is_string (meant_by Unexpected strategy_in) r.old) }
     ensures shorter { OnOk result (length r.new < length r.old) }
 {
     let TokenKind::String = r.kind() else {
@@ -166,7 +169,7 @@ fn whole_of(alloc: Global, most: u64, text: &[u8]) -> Option<u64>
 /// A whole number up to this one.
 #[tactic(auto, using(crate::proofs::Ahead::sees_number_is), unfolding(crate::specs::Choices::chosen_at, ddl_tokens::specs::Reading::bytes_at))]
 fn whole_up_to(alloc: Global, most: u64, r: &mut Reader<'_>) -> Result<u64, ReadFault>
-    ensures value { Gives (λ n. n) result r.new (chosen_at is_number (meant_by Unexpected (whole_in most)) r.old) }
+    ensures value { Gives (λ n. n) result r.new (whole_up_to_at most r.old) }
     ensures shorter { OnOk result (length r.new < length r.old) }
     ensures bound { IfOk result (λ n. n ≤ most) }
 {
@@ -225,7 +228,7 @@ pub(crate) fn bare_name(alloc: Global, r: &mut Reader<'_>) -> Result<Bytes, Read
 
 /// A whole number of 64 bits.
 pub(crate) fn whole(alloc: Global, r: &mut Reader<'_>) -> Result<u64, ReadFault>
-    ensures value { Gives (λ n. n) result r.new (chosen_at is_number (meant_by Unexpected (whole_in most_whole)) r.old) }
+    ensures value { Gives (λ n. n) result r.new (whole_up_to_at most_whole r.old) }
     ensures shorter { OnOk result (length r.new < length r.old) }
 {
     whole_up_to(alloc, u64::MAX, r)
@@ -233,7 +236,7 @@ pub(crate) fn whole(alloc: Global, r: &mut Reader<'_>) -> Result<u64, ReadFault>
 
 /// A whole number of 32 bits.
 pub(crate) fn short(alloc: Global, r: &mut Reader<'_>) -> Result<u32, ReadFault>
-    ensures value { Gives (λ n. n) result r.new (chosen_at is_number (meant_by Unexpected (whole_in most_short)) r.old) }
+    ensures value { Gives (λ n. n) result r.new (whole_up_to_at most_short r.old) }
     ensures shorter { OnOk result (length r.new < length r.old) }
 {
     let n = whole_up_to(alloc, u64::from(u32::MAX), r)?;
@@ -271,7 +274,8 @@ pub(crate) fn source_kind(r: &mut Reader<'_>) -> Result<Kind, ReadFault>
 /// This word, with or without quotes, in any letter case.
 #[tactic(auto, using(crate::proofs::Ahead::sees_name_is, crate::proofs::Ahead::name_goes_on), unfolding(crate::specs::Choices::chosen_at))]
 pub(crate) fn word(r: &mut Reader<'_>, word: &[u8]) -> Result<(), ReadFault>
-    ensures value { Gives (λ _. tt) result r.new (chosen_at is_name (meant_by UnknownSetting (word_in word.now)) r.old) }
+    ensures value { Gives (λ _. tt) result r.new
+        (chosen_at is_name (meant_by UnknownSetting (word_in word.now)) r.old) }
     ensures shorter { OnOk result (length r.new < length r.old) }
 {
     if !r.sees_name() {

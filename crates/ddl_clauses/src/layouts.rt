@@ -107,7 +107,8 @@ fn any_layout(r: &Reader<'_>) -> Option<LayoutName>
 /// A layout's name, with or without quotes.
 #[tactic(auto, using(crate::proofs::Ahead::sees_name_is, crate::proofs::Ahead::name_goes_on), unfolding(crate::specs::Choices::chosen_at))]
 pub(crate) fn layout_name(r: &mut Reader<'_>) -> Result<LayoutName, ReadFault>
-    ensures value { Gives (λ name. name) result r.new (chosen_at is_name (meant_by Unsupported (layout_named all_layouts)) r.old) }
+    ensures value { Gives (λ name. name) result r.new
+        (chosen_at is_name (meant_by Unsupported (layout_named all_layouts)) r.old) }
     ensures shorter { OnOk result (length r.new < length r.old) }
 {
     if !r.sees_name() {

@@ -3,7 +3,8 @@ ghost use Rattle.std.specs.Prelude.{◌≡◌, ◌<◌, ◌≤◌, length, IfOk,
 ghost use Rattle.ddl_tokens.specs.Reading.{Gives, bytes_ahead};
 ghost use Rattle.ddl_tokens.specs.Lists.{GivesStep, has_all, has_number, repeat};
 ghost use Rattle.ddl_clauses.specs.Settings.{all_settings};
-ghost use Rattle.ddl_clauses.specs.SettingLists.{setting_named, taken_setting, setting_value_at, setting_at, has_setting};
+ghost use Rattle.ddl_clauses.specs.SettingLists.{setting_named, taken_setting, setting_value_at, setting_at};
+ghost use Rattle.ddl_clauses.specs.SettingLists.{has_setting};
 ghost use Rattle.ddl_clauses.specs.SettingLists.{number_of_setting, wanted_numbers, next_setting, has_field_for_lag};
 ghost use Rattle.ddl_clauses.specs.SettingLists.{settings_at, settings_in_brackets_at};
 

@@ -5,7 +5,8 @@ ghost use Rattle.ddl_clauses.specs.Parts.{value_of_setting, text_or_none, format
 ghost use Rattle.ddl_clauses.specs.Parts.{strategy_or_min, update_with_lag, kept_short, pool_size_in, is_run_directly};
 ghost use Rattle.ddl_clauses.specs.Parts.{source_with, array_size_in, cache_with, layout_with, clause_of_kind};
 ghost use Rattle.ddl_clauses.specs.Parts.{written_source_in, written_layout_in, lifetime_in, range_names_in, output_in};
-ghost use Rattle.ddl_clauses.specs.Parts.{comment_in, dictionary_parts, default_output, output_or_default, sizes, function_parts};
+ghost use Rattle.ddl_clauses.specs.Parts.{comment_in, dictionary_parts, default_output, output_or_default, sizes};
+ghost use Rattle.ddl_clauses.specs.Parts.{function_parts};
 
 use crate::clause::{Clause, ClauseKind, RangeNames, WrittenSource};
 use crate::layouts::LayoutName;
@@ -119,7 +120,8 @@ fn strategy_of(settings: &[Setting]) -> Strategy
 }
 
 fn update_of(alloc: Global, lag: u32, settings: &[Setting]) -> Result<Update, NoMemory>
-    ensures { IfOk result (λ update. update ≡ update_with_lag lag (value_of_setting SettingName.UpdateField settings.now)) }
+    ensures { IfOk result (λ update.
+        update ≡ update_with_lag lag (value_of_setting SettingName.UpdateField settings.now)) }
 {
     match value_of_setting(SettingName::UpdateField, settings) {
         Some(SettingValue::Text(name)) => Ok(Update::Field {

@@ -1,6 +1,7 @@
 // The settings of sources and layouts: what they are named, and which list takes which.
 ghost use Rattle.std.specs.Prelude.{◌≡◌};
-ghost use Rattle.ddl_clauses.specs.Settings.{setting_number, setting_text, form_of, group_of, has_group, source_section};
+ghost use Rattle.ddl_clauses.specs.Settings.{setting_number, setting_text, form_of, group_of, has_group};
+ghost use Rattle.ddl_clauses.specs.Settings.{source_section};
 
 use dict_schema::{Format, Kind, Strategy};
 use dict_value::Bytes;

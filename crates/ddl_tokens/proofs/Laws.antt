@@ -174,7 +174,7 @@ pub judged_ok : {A : Type 0} (b : Bool) (a x : A) (e : SyntaxFault) → cond b (
 judged_ok true a x e h = (refl, cc)
 judged_ok false a x e h = absurd cc
 
-same_itself : (case : LetterCase) (word : List ℕ) → same_letters case word word ≡ true
+pub same_itself : (case : LetterCase) (word : List ℕ) → same_letters case word word ≡ true
 unfolding same_letters
 same_itself case [] = refl
 same_itself case (b ∷ word) = cond-true (folded case b == folded case b) _ _ (eq-eqb (folded case b) (folded case b) refl) ∙ same_itself case word

@@ -32,12 +32,12 @@ lack false n m a ts us e h = let k : Unexpected n ≡ e = cc in (ap place_of k, 
 
 -- ---- numbers that are there
 
-there : {A : Type 0} (number : A → ℕ) (n : ℕ) (a : List A) (x : A) → number x ≡ n → has_number number n (a ++ x ∷ []) ≡ true
+pub there : {A : Type 0} (number : A → ℕ) (n : ℕ) (a : List A) (x : A) → number x ≡ n → has_number number n (a ++ x ∷ []) ≡ true
 unfolding has_number
 there number n [] x e = cond-true (number x == n) _ _ (eq-eqb (number x) n e)
 there number n (y ∷ a) x e = elim (cases_Bool (number y == n)) [ inl h ↦ cond-true (number y == n) _ _ h | inr h ↦ cond-false (number y == n) _ _ h ∙ there number n a x e ]
 
-stays : {A : Type 0} (number : A → ℕ) (n : ℕ) (a : List A) (x : A) → has_number number n a ≡ true → has_number number n (a ++ x ∷ []) ≡ true
+pub stays : {A : Type 0} (number : A → ℕ) (n : ℕ) (a : List A) (x : A) → has_number number n a ≡ true → has_number number n (a ++ x ∷ []) ≡ true
 unfolding has_number
 stays number n [] x e = absurd cc
 stays number n (y ∷ a) x e = elim (cases_Bool (number y == n)) [
