@@ -1,0 +1,1 @@
+// Prefixes of both families.
