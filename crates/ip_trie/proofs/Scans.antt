@@ -177,3 +177,27 @@ next-shared entries v6 n cells t bits level small some l there =
     let e : level - 1 + 1 ≡ level = omega (arith, some) in
     let f : level - 1 + 1 ≡ level + 1 - 1 = omega (arith, some) in
     subst (λ k. Shares entries v6 bits (4 * k)) f (t.used bits (level - 1) small (omega (arith, some, l)) (λ z. there (ap (node cells bits) (sym e) ∙ z)))
+
+-- a closed list with a sound cell
+pub closed-slot : (cells : List Cell) (slot : ℕ) (cell : Cell) → IsClosed cells → TABLE + 16 ≤ length cells → slot < length cells
+    → (cell.next ≢ 0 → (cell.next ≡ TABLE) ⊎ ((i : ℕ) × (cell.next ≡ next_at cells i))) → IsClosed (set cells slot cell)
+closed-slot cells slot cell c size l within =
+    let len = length-set cells slot cell in
+    record {
+      size = λ some. omega (arith, size, len);
+      nexts = λ i some. elim (cases_eq i slot) [
+        | inr ne ↦
+            let e = ap (λ (x : Cell). x.next) (get_or-set_other cells slot i cell blank ne) in
+            let n = c.nexts i (omega (arith, some, e)) in
+            omega (arith, n, e, len)
+        | inl is ↦
+            let e : next_at (set cells slot cell) i ≡ cell.next = ap (next_at (set cells slot cell)) is ∙ ap (λ (x : Cell). x.next) (get_or-set_same cells slot cell blank l) in
+            elim (within (λ z. omega (arith, some, e, z))) [
+              | inl root ↦ omega (arith, e, root, size, len)
+              | inr one ↦
+                  let m = one.1 in
+                  let n = c.nexts one.0 (omega (arith, some, e, m)) in
+                  omega (arith, n, e, m, len)
+            ]
+      ];
+    }

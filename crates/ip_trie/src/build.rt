@@ -101,13 +101,13 @@ fn bettered(entries: &[Entry], row: usize, old: u32) -> u32
 }
 
 /// Lets a row end at cells from one place on to another, where none better ends.
-fn mark(cells: &mut [Cell], entries: &[Entry], row: usize, start: usize, end: usize)
+fn mark(cells: &mut Vec<Cell>, entries: &[Entry], row: usize, start: usize, end: usize)
     requires rows { length entries.now ≤ MOST_ROWS }
     requires row { row < length entries.now }
-    requires old { (i : ℕ) → row_at cells.old i ≤ row }
+    requires old { (i : ℕ) → row_at cells.old.items i ≤ row }
     requires order { start ≤ end }
-    requires end { end ≤ length cells.old }
-    ensures { AreBettered entries.now row start end cells.old cells.new }
+    requires end { end ≤ length cells.old.items }
+    ensures { AreBettered entries.now row start end cells.old.items cells.new.items }
 {
     for at in start..end {
         let cell = cells[at];
@@ -154,7 +154,7 @@ fn put(cells: &mut Vec<Cell>, entries: &[Entry], v6: bool, row: usize) -> Result
     let last = level_of(entry.len);
     let start = way(cells, entries, v6, row, last)?;
     let from = start + digit_of(entry.bits, last);
-    mark(cells.as_mut_slice(), entries, row, from, from + covered(entry.len, last));
+    mark(cells, entries, row, from, from + covered(entry.len, last));
     Ok(())
 }
 
@@ -181,15 +181,16 @@ fn scanned(cells: &[Cell], bits: u128) -> Cell
 }
 
 /// Fills the table in front of a trie.
-fn fill_table(cells: &mut [Cell])
-    requires size { 65552 ≤ length cells.old }
-    requires closed { IsClosed cells.old }
-    ensures closed { IsClosed cells.new }
+fn fill_table(cells: &mut Vec<Cell>)
+    requires size { 65552 ≤ length cells.old.items }
+    requires closed { IsClosed cells.old.items }
+    ensures closed { IsClosed cells.new.items }
     ensures filled { (entries : List Entry) (v6 : Bool) → AreEntries entries
-        → IsTrie entries v6 (length entries) cells.old → IsFilled entries v6 cells.new }
+        → IsTrie entries v6 (length entries) cells.old.items → IsFilled entries v6 cells.new.items }
 {
     for slot in 0..TABLE {
-        cells[slot] = scanned(cells, (slot as u128) << 112);
+        let cell = scanned(cells.as_slice(), (slot as u128) << 112);
+        cells[slot] = cell;
     }
 }
 
@@ -219,6 +220,6 @@ pub(crate) fn cells_of(alloc: Global, entries: &[Entry], v6: bool) -> Result<Vec
     for row in 0..entries.len() {
         put(&mut cells, entries, v6, row)?;
     }
-    fill_table(cells.as_mut_slice());
+    fill_table(&mut cells);
     Ok(cells)
 }

@@ -6,10 +6,10 @@ use Rattle.ip_trie.proofs.build.fill_table.Given as goal
 
 abbrev pub invariant-loop-slot : goal.invariant-loop-slot
 invariant-loop-slot l = record {
-  len : length l.cells ≡ length l.initial.cells;
-  closed : IsClosed l.cells;
-  trie : (entries : List Entry) (v6 : Bool) → AreEntries entries → IsTrie entries v6 (length entries) l.initial.cells
-      → IsTrie entries v6 (length entries) l.cells;
-  slots : (entries : List Entry) (v6 : Bool) → AreEntries entries → IsTrie entries v6 (length entries) l.initial.cells
-      → (slot : ℕ) → slot < l.slot → IsSlot entries v6 l.cells slot;
+  len : length l.cells.items ≡ length l.initial.cells.items;
+  closed : IsClosed l.cells.items;
+  trie : (entries : List Entry) (v6 : Bool) → AreEntries entries → IsTrie entries v6 (length entries) l.initial.cells.items
+      → IsTrie entries v6 (length entries) l.cells.items;
+  slots : (entries : List Entry) (v6 : Bool) → AreEntries entries → IsTrie entries v6 (length entries) l.initial.cells.items
+      → (slot : ℕ) → slot < l.slot → IsSlot entries v6 l.cells.items slot;
 }
