@@ -202,11 +202,14 @@ module _ (entries : List Entry) (v6 : Bool) (n : ℕ) (sound : AreEntries entrie
         | inr made ↦
             let z : row_at new (node new bits l + digit l bits) ≡ 0 =
             more.rows (node new bits l + digit l bits) ∙ row-past old (node new bits l + digit l bits) (let q = made.2 in omega (arith, q)) in
-            inl (z, λ r (less, has, ends).
-            let m = level-least (entry_at entries r).len in
-            let there_old = t.paths r l less has.0 (omega (arith, ends)) in
-            let same = node-agree old (entry_at entries r).bits bits l (omega (arith, ll)) (same-top (4 * l) (entry_at entries r).len (entry_at entries r).bits bits (omega (arith, m, ends)) (sound.len r) has.1) in
-            there_old (same ∙ made.3))
+            inl (
+              z,
+              λ r (less, has, ends).
+                  let m = level-least (entry_at entries r).len in
+                  let there_old = t.paths r l less has.0 (omega (arith, ends)) in
+                  let same = node-agree old (entry_at entries r).bits bits l (omega (arith, ll)) (same-top (4 * l) (entry_at entries r).len (entry_at entries r).bits bits (omega (arith, m, ends)) (sound.len r) has.1) in
+                  there_old (same ∙ made.3),
+            )
       ];
     }
 

@@ -66,7 +66,7 @@ module _ (entries : List Entry) (v6 : Bool) (n level start : ℕ) (sound : AreEn
       let e : m ≡ level = p.0 in
       let digits : digit m bits ≡ digit level bits = ap (λ k. digit k bits) e in
       let q = covered-from (entry_at entries n).len level x bits ll lv (sound.len n) (sound.cleared n)
-          (sym (subst (λ k. top (4 * k) bits ≡ top (4 * k) x) e p.1)) (omega (arith, from, node_same, h, digits)) (omega (arith, to, node_same, h, digits)) in
+      (sym (subst (λ k. top (4 * k) bits ≡ top (4 * k) x) e p.1)) (omega (arith, from, node_same, h, digits)) (omega (arith, to, node_same, h, digits)) in
       (omega arith, (of, q), sym lv ∙ sym e)
 
   -- and nowhere else

@@ -1,13 +1,17 @@
 -- Rows as prefixes of texts and as entries.
 use Rattle.std.specs.List.{slice_get}
-use Rattle.std.proofs.Common.{◌≡◌, ◌≢◌, ◌⊎◌, Bool, true, false, cond, ℕ, zero, suc, ◌+◌, ◌-◌, ◌*◌, ◌/◌, ◌%◌, ◌^◌, ◌<◌, ◌≤◌, List, [], ◌∷◌, length, get_or, Option, Some, None, inl, inr, refl, arith, sym, ◌∙◌, ap, subst}
+use Rattle.std.proofs.Common.{◌≡◌, ◌≢◌, ◌⊎◌, Bool, true, false, cond, ℕ, zero, suc, ◌+◌, ◌-◌, ◌*◌, ◌/◌, ◌%◌, ◌^◌, ◌<◌, ◌≤◌, List, [], ◌∷◌, ◌++◌, length, get_or, Option, Some, None, Ok, inl, inr, refl, arith, sym, ◌∙◌, ap, subst, length-append}
+use Rattle.std.proofs.lemmas.Bool.{cases_eq, cases_lt}
+use Rattle.std.proofs.lemmas.List.{get_or_append_left, get_or_past, get_or_push}
+use Rattle.dict_value.specs.Numbers.{given}
+use Rattle.dict_value.specs.declared.value.BadValue.TheVariants.{BadAddress}
 use Rattle.std.proofs.lemmas.Nat.{shl-shr, shr-shr, shr_split}
 use Rattle.std.proofs.lemmas.Option.{get_or_from_slice_get, slice_get_within}
 use Rattle.dict_value.specs.Addresses.{IsPrefix, first_bits, prefix_in, prefix_of, prefix_width}
 use Rattle.dict_value.specs.declared.value.Address.{Address}
 use Rattle.dict_value.specs.declared.value.Address.TheVariants as address
 use Rattle.dict_value.specs.declared.value.Prefix.{Prefix}
-use Rattle.ip_trie.specs.Cells.{Has, IsIn, IsNoBetter, Shares, TellsBest, aligned, entry_at, entry_of, no_entry, top}
+use Rattle.ip_trie.specs.Cells.{AreEntries, Has, IsIn, IsNoBetter, Shares, TellsBest, aligned, entry_at, entry_of, no_entry, top}
 use Rattle.ip_trie.specs.FindByAddress.{FindsByAddress, HasInCommon, HasPrefixAt, Holds, IsLongest, shortened}
 use Rattle.ip_trie.specs.Kept.{AreEntriesOf}
 use Rattle.ip_trie.specs.declared.cells.Entry.{Entry}
@@ -143,3 +147,25 @@ module _ (texts : List (List ℕ)) (entries : List Entry) (read : AreEntriesOf t
       let len : (entry_at entries row).len ≡ p.0.len = ap (λ (x : Entry). x.len) p.3 in
       let less : count ≤ p.0.len = omega (arith, l, len) in
       inr (row, p.0, p.1, less, common-from p.0 a v6 bits count p.2 of v less (subst (λ (x : Entry). top count x.bits ≡ top count bits) p.3 same))
+
+-- what was read of a text
+pub reads-prefix : {text : Option Prefix} (seen : Option Prefix) (p : Prefix) → text ≡ seen → Ok p ≡ given seen BadAddress Ok → text ≡ Some p
+reads-prefix None p same e = absurd (cc (e))
+reads-prefix (Some q) p same e = let s : q ≡ p = cc (e) in same ∙ ap Some s
+
+-- an entry more
+pub entries-push : (entries : List Entry) (e : Entry) → AreEntries entries → e.len ≤ 128 → e.bits < 2 ^ 128 → e.bits % 2 ^ (128 - e.len) ≡ 0 → AreEntries (entries ++ e ∷ [])
+entries-push entries e sound len small cleared = record {
+  len = λ row. at (λ (x : Entry). x.len ≤ 128) row (sound.len row) len (omega arith);
+  small = λ row. at (λ (x : Entry). x.bits < 2 ^ 128) row (sound.small row) small (omega arith);
+  cleared = λ row. at (λ (x : Entry). x.bits % 2 ^ (128 - x.len) ≡ 0) row (sound.cleared row) cleared refl;
+}
+  where
+    at : (P : Entry → Type 0) (row : ℕ) → P (entry_at entries row) → P e → P no_entry → P (entry_at (entries ++ e ∷ []) row)
+    at P row old new none = elim (cases_lt row (length entries)) [
+      | inl less ↦ subst P (sym (get_or_append_left entries (e ∷ []) no_entry row less)) old
+      | inr most ↦ elim (cases_eq row (length entries)) [
+        | inl last ↦ subst P (sym (get_or_push entries e no_entry row (sym last))) new
+        | inr past ↦ subst P (sym (get_or_past (entries ++ e ∷ []) row no_entry (let l = length-append entries (e ∷ []) in omega (arith, l, most, past)))) none
+      ]
+    ]

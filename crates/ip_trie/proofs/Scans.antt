@@ -120,12 +120,11 @@ module _ (entries : List Entry) (v6 : Bool) (old new : List Cell) (slot : ℕ) (
       let way : node old first 4 ≡ node old bits 4 = node-agree old first bits 4 (omega arith) agree in
       let short : (r : ℕ) → level_of (entry_at entries r).len < 4 → (entry_at entries r).len ≤ 16 = λ r l. let m = level-most (entry_at entries r).len in omega (arith, m, l) in
       let tops : (r : ℕ) → level_of (entry_at entries r).len < 4 → top (entry_at entries r).len first ≡ top (entry_at entries r).len bits = λ r l.
-          same-top (entry_at entries r).len 16 first bits (short r l) (omega arith) agree in
-      (
+      same-top (entry_at entries r).len 16 first bits (short r l) (omega arith) agree in (
         ap (λ (c : Cell). c.next) here ∙ (n ∙ (way ∙ sym (slot-node bits 4))),
         subst (TellsBest entries (EndsAbove entries v6 4 bits)) (sym (ap (λ (c : Cell). c.row) here))
-        (tells-by entries (EndsAbove entries v6 4 first) (EndsAbove entries v6 4 bits) cell.row
-        (λ r (has, l). ((has.0, has.1 ∙ tops r l), l)) (λ r (has, l). ((has.0, has.1 ∙ sym (tops r l)), l)) b),
+            (tells-by entries (EndsAbove entries v6 4 first) (EndsAbove entries v6 4 bits) cell.row
+            (λ r (has, l). ((has.0, has.1 ∙ tops r l), l)) (λ r (has, l). ((has.0, has.1 ∙ sym (tops r l)), l)) b),
       )
 
 pub tells-within : (entries : List Entry) (v6 : Bool) (level bits cell : ℕ) → TellsBest entries (EndsAbove entries v6 level bits) cell → cell ≤ length entries

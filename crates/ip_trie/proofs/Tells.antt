@@ -25,10 +25,15 @@ module _ (entries : List Entry) (v6 : Bool) (n level bits : ℕ) where
 
   -- one that does
   pub tells-bettered : (old new : ℕ) → TellsBest entries (EndsAt entries v6 n level bits) old → EndsAt entries v6 (n + 1) level bits n → IsBettered entries n old new → TellsBest entries (EndsAt entries v6 (n + 1) level bits) new
-  tells-bettered old new t here (inl (why, is)) = inr (n, is, here, λ row e. elim (cases_eq row n) [
-    | inl same ↦ inr (ap (λ r. (entry_at entries r).len) same, omega (arith, same))
-    | inr other ↦ inl (shorter row (ends-less row other e) t why)
-  ])
+  tells-bettered old new t here (inl (why, is)) = inr (
+    n,
+    is,
+    here,
+    λ row e. elim (cases_eq row n) [
+      | inl same ↦ inr (ap (λ r. (entry_at entries r).len) same, omega (arith, same))
+      | inr other ↦ inl (shorter row (ends-less row other e) t why)
+    ],
+  )
     where
       shorter : (row : ℕ) → EndsAt entries v6 n level bits row → TellsBest entries (EndsAt entries v6 n level bits) old → (old ≡ 0) ⊎ ((entry_at entries (old - 1)).len < (entry_at entries n).len) → (entry_at entries row).len < (entry_at entries n).len
       shorter row e (inl t) why = absurd (t.1 row e)
@@ -41,16 +46,21 @@ module _ (entries : List Entry) (v6 : Bool) (n level bits : ℕ) where
             | inr equal ↦ let q = equal.0 in omega (arith, q, l)
           ]
   tells-bettered old new (inl t) here (inr (some, most, is)) = absurd (let z = t.0 in omega (arith, z, some))
-  tells-bettered old new (inr (best, eq, p, all)) here (inr (some, most, is)) = inr (best, is ∙ eq, ends-more best p, λ row e. elim (cases_eq row n) [
-    | inr other ↦ all row (ends-less row other e)
-    | inl same ↦
-        let b : old - 1 ≡ best = omega (arith, eq) in
-        let m : (entry_at entries row).len ≤ (entry_at entries best).len = subst (λ r. (entry_at entries r).len ≤ (entry_at entries best).len) (sym same) (subst (λ r. (entry_at entries n).len ≤ (entry_at entries r).len) b most) in
-        elim (cases_lt (entry_at entries row).len (entry_at entries best).len) [
-          | inl less ↦ inl less
-          | inr equal ↦ inr (omega (arith, m, equal), (let q = p.0 in omega (arith, q, same)))
-        ]
-  ])
+  tells-bettered old new (inr (best, eq, p, all)) here (inr (some, most, is)) = inr (
+    best,
+    is ∙ eq,
+    ends-more best p,
+    λ row e. elim (cases_eq row n) [
+      | inr other ↦ all row (ends-less row other e)
+      | inl same ↦
+          let b : old - 1 ≡ best = omega (arith, eq) in
+          let m : (entry_at entries row).len ≤ (entry_at entries best).len = subst (λ r. (entry_at entries r).len ≤ (entry_at entries best).len) (sym same) (subst (λ r. (entry_at entries n).len ≤ (entry_at entries r).len) b most) in
+          elim (cases_lt (entry_at entries row).len (entry_at entries best).len) [
+            | inl less ↦ inl less
+            | inr equal ↦ inr (omega (arith, m, equal), (let q = p.0 in omega (arith, q, same)))
+          ]
+    ],
+  )
 
 module _ (entries : List Entry) (v6 : Bool) (bits : ℕ) where
   -- a level more
@@ -60,16 +70,24 @@ module _ (entries : List Entry) (v6 : Bool) (bits : ℕ) where
       subst (TellsBest entries (EndsAbove entries v6 (level + 1) bits)) (sym (kept none))
       (tells-by entries (EndsAbove entries v6 level bits) (EndsAbove entries v6 (level + 1) bits) best
       (λ row (has, l). (has, omega (arith, l)))
-      (λ row (has, l). (has, elim (cases_lt (level_of (entry_at entries row).len) level) [
-        | inl less ↦ less
-        | inr most ↦ absurd (no_row row (has.0.0, has, omega (arith, l, most)))
-      ])) t)
+      (λ row (has, l). (
+        has,
+        elim (cases_lt (level_of (entry_at entries row).len) level) [
+          | inl less ↦ less
+          | inr most ↦ absurd (no_row row (has.0.0, has, omega (arith, l, most)))
+        ],
+      )) t)
   tells-level level best cell next t (inr (row, is, here, most)) kept new =
       let some : cell ≢ 0 = λ z. omega (arith, is, z) in
-      inr (row, new some ∙ is, (here.1, (let e = here.2 in omega (arith, e))), λ other (has, l). elim (cases_lt (level_of (entry_at entries other).len) level) [
-        | inl less ↦ let e = here.2 in inl (omega (arith, less, e))
-        | inr at ↦ most other (has.0.0, has, omega (arith, l, at))
-      ])
+      inr (
+        row,
+        new some ∙ is,
+        (here.1, (let e = here.2 in omega (arith, e))),
+        λ other (has, l). elim (cases_lt (level_of (entry_at entries other).len) level) [
+          | inl less ↦ let e = here.2 in inl (omega (arith, less, e))
+          | inr at ↦ most other (has.0.0, has, omega (arith, l, at))
+        ],
+      )
 
   -- all rows that hold the bits end above
   pub tells-all : (level best : ℕ) → ((row : ℕ) → Has entries v6 bits row → level_of (entry_at entries row).len < level) → TellsBest entries (EndsAbove entries v6 level bits) best → TellsBest entries (Has entries v6 bits) best

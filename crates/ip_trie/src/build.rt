@@ -10,8 +10,8 @@ ghost use Rattle.ip_trie.specs.Kept.{AreCellsOf, AreEntriesOf, IsFilled};
 ghost use Rattle.ip_trie.specs.steps.Growing.{AreBettered, Grows, IsBettered, IsGrown};
 
 use crate::cells::{BLANK, Cell, Entry, TABLE, better, digit_of, entry_of};
-use dict_value::{Bytes, NoMemory, read_prefix};
 use crate::trie::TrieFault;
+use dict_value::{Bytes, NoMemory, read_prefix};
 use std::alloc::Global;
 
 /// The entry of each text's prefix.
@@ -119,7 +119,13 @@ fn mark(cells: &mut Vec<Cell>, entries: &[Entry], row: usize, start: usize, end:
 }
 
 /// Goes the way of a row down to a level, and makes what isn't there.
-fn way(cells: &mut Vec<Cell>, entries: &[Entry], v6: bool, row: usize, last: u32) -> Result<usize, NoMemory>
+fn way(
+    cells: &mut Vec<Cell>,
+    entries: &[Entry],
+    v6: bool,
+    row: usize,
+    last: u32,
+) -> Result<usize, NoMemory>
     requires entries { AreEntries entries.now }
     requires trie { IsTrie entries.now v6 row cells.old.items }
     requires row { IsIn entries.now v6 row }

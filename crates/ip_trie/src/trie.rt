@@ -1,6 +1,6 @@
 // The tries of both families, and the search in them.
-ghost use Rattle.std.specs.Prelude.{◌≡◌, ◌+◌, ◌*◌, ◌^◌, ◌<◌, ◌≤◌, ◌⊎◌, ℕ, Bool, List, All, Err, IfErr, IfOk, IsSome, OnOk};
-ghost use Rattle.std.specs.Prelude.{length};
+ghost use Rattle.std.specs.Prelude.{◌≡◌, ◌≢◌, ◌+◌, ◌-◌, ◌≤◌, ◌⊎◌, ℕ, Bool, List, All, None, Some, Err, IfErr, IfOk, IsSome};
+ghost use Rattle.std.specs.Prelude.{OnOk, length};
 ghost use Rattle.dict_value.specs.Addresses.{prefix_in};
 ghost use Rattle.dict_value.specs.Memory.{UnlessNoMemory};
 ghost use Rattle.dict_value.specs.declared.value.TheConstants.{MOST_ROWS};
@@ -41,7 +41,7 @@ fn found_in<S: Counter>(cells: &Counted<Cell, S>, bits: u128, steps: &mut S) -> 
         → AreCellsOf entries v6 cells.now → TellsBest entries (Has entries v6 bits) result }
     ensures steps { (entries : List Entry) (v6 : Bool) → AreEntries entries
         → AreCellsOf entries v6 cells.now → (count : ℕ) × ((count ≡ 0) ⊎ Shares entries v6 bits count)
-            × (S.amount steps.new ≤ S.amount steps.old + (count + 1)) }
+        × (S.amount steps.new ≤ S.amount steps.old + (count + 1)) }
 {
     if cells.is_empty() {
         return 0;
@@ -86,12 +86,26 @@ impl<S: Counter> Trie<S> {
             → FindsByAddress texts address.now result }
         ensures steps { (texts : List (List ℕ)) → AreTriesOf texts self.now.v4 self.now.v6
             → (count : ℕ) × HasInCommon texts address.now count
-                × (S.amount steps.new ≤ S.amount steps.old + (count + 1)) }
+            × (S.amount steps.new ≤ S.amount steps.old + (count + 1)) }
     {
-        let best = match address {
+        let best = self.best_for(address, steps);
+        if best == 0 { None } else { Some(best - 1) }
+    }
+
+    /// One more than that row, or 0.
+    #[inline(always)]
+    fn best_for(&self, address: &Address, steps: &mut S) -> u32
+        ensures none { (texts : List (List ℕ)) → AreTriesOf texts self.now.v4 self.now.v6
+            → result ≡ 0 → FindsByAddress texts address.now None }
+        ensures some { (texts : List (List ℕ)) → AreTriesOf texts self.now.v4 self.now.v6
+            → result ≢ 0 → FindsByAddress texts address.now (Some (result - 1)) }
+        ensures steps { (texts : List (List ℕ)) → AreTriesOf texts self.now.v4 self.now.v6
+            → (count : ℕ) × HasInCommon texts address.now count
+            × (S.amount steps.new ≤ S.amount steps.old + (count + 1)) }
+    {
+        match address {
             Address::V4(bits) => found_in(&self.v4, u128::from(*bits) << 96, steps),
             Address::V6(bits) => found_in(&self.v6, *bits, steps),
-        };
-        if best == 0 { None } else { Some(best - 1) }
+        }
     }
 }

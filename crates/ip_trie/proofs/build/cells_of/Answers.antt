@@ -1,8 +1,7 @@
 -- From the empty trie to that of all rows, and its table.
-use Rattle.std.proofs.Common.{◌≡◌, ◌≢◌, ◌<◌, ◌≤◌, ◌+◌, ◌*◌, ℕ, List, [], length, inl, inr, refl, arith, subst, sym, ap, ◌∙◌, rules}
+use Rattle.std.proofs.Common.{◌≡◌, ◌≤◌, ◌+◌, ◌*◌, ℕ, length, inr, arith, subst}
 use Rattle.ip_trie.specs.Cells.{IsTrie}
-use Rattle.ip_trie.specs.declared.cells.Cell.{Cell}
-use Rattle.ip_trie.proofs.Scans.{closed-none, closed-trie, empty-trie}
+use Rattle.ip_trie.proofs.Scans.{empty-trie}
 use Rattle.ip_trie.proofs.build.cells_of.Goals as goal
 
 pub loop-row-init : goal.loop-row-init
@@ -10,3 +9,8 @@ loop-row-init c = record {
   trie = empty-trie c.args.entries.now c.args.v6 c.in_ok-cells.cells.items c.in_ok-cells.ensures.len c.in_ok-cells.ensures.next c.in_ok-cells.ensures.row;
   room = let l = c.in_ok-cells.ensures.len in omega (arith, l);
 }
+
+pub returns-clause-cells : goal.returns-clause-cells
+returns-clause-cells c =
+    let e : c.loop-row.row ≡ length c.args.entries.now = omega arith in
+    inr (c.fill_table.ensures.filled c.args.entries.now c.args.v6 c.requires.entries (subst (λ n. IsTrie c.args.entries.now c.args.v6 n c.loop-row.cells.items) e c.loop-row.invariant.trie))

@@ -19,7 +19,7 @@ loop-slot-preserved c =
     let first : ℕ = slot * 2 ^ 112 % 2 ^ 128 in
     let at : top 16 first ≡ slot = omega (arith, low) in
     let told = subst (λ (z : List Cell). (entries : List Entry) (v6 : Bool) → AreEntries entries → IsTrie entries v6 (length entries) z
-        → (cell.next ≡ node z first 4) × TellsBest entries (EndsAbove entries v6 4 first) cell.row) c.as_slice.ensures.value c.scanned-cell.ensures.told in
+    → (cell.next ≡ node z first 4) × TellsBest entries (EndsAbove entries v6 4 first) cell.row) c.as_slice.ensures.value c.scanned-cell.ensures.told in
     record {
       len = length-set cells slot cell ∙ i.len;
       closed = closed-slot cells slot cell i.closed size (omega (arith, low, size)) within;

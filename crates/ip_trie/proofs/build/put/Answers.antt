@@ -6,7 +6,7 @@ use Rattle.ip_trie.specs.declared.cells.Entry.{Entry}
 use Rattle.ip_trie.specs.steps.Growing.{AreBettered}
 use Rattle.ip_trie.proofs.Bits.{covered-within, level-within}
 use Rattle.ip_trie.proofs.Grown.{way-room}
-use Rattle.ip_trie.proofs.Lists.{any-default}
+use Rattle.ip_trie.proofs.Lists.{any-default, same-bool}
 use Rattle.ip_trie.proofs.Marks.{marked-trie, other-family}
 use Rattle.ip_trie.proofs.build.put.Goals as goal
 
@@ -57,5 +57,5 @@ returns-clause-trie c =
     let x = (entry_at entries c.args.row).bits in
     let start = c.in_ok-start.start in
     let marked = subst (λ n. AreBettered entries c.args.row (start + digit c.level_of-last.result x) (start + digit c.level_of-last.result x + n) c.way.new.cells.items c.mark.new.cells.items) k
-        (subst (λ n. AreBettered entries c.args.row (start + n) (start + n + c.covered.result) c.way.new.cells.items c.mark.new.cells.items) d c.mark.ensures) in
-    marked-trie entries c.args.v6 c.args.row c.level_of-last.result start c.requires.entries c.way.new.cells.items c.mark.new.cells.items (c.requires.row, sym (ap (λ (x : Entry). x.v6) e) ∙ c.if-entry-v6.false) level c.in_ok-start.ensures.grown marked
+    (subst (λ n. AreBettered entries c.args.row (start + n) (start + n + c.covered.result) c.way.new.cells.items c.mark.new.cells.items) d c.mark.ensures) in
+    marked-trie entries c.args.v6 c.args.row c.level_of-last.result start c.requires.entries c.way.new.cells.items c.mark.new.cells.items (c.requires.row, sym (ap (λ (x : Entry). x.v6) e) ∙ same-bool _ _ c.if-entry-v6.false) level c.in_ok-start.ensures.grown marked

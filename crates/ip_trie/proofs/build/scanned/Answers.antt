@@ -38,9 +38,10 @@ loop-level-preserved c =
           let told = c.loop-level.invariant.told entries v6 sound t in
           let there : node cells c.args.bits l ≢ 0 = λ z. c.if-next-eq0.false (told.0 ∙ z) in
           let at : node cells c.args.bits l + digit l c.args.bits ≡ c.loop-level.next + c.digit_of.result = let a = told.0 in let b = c.digit_of.ensures.is in omega (arith, a, b) in
-          let read = ap (λ k. get_or cells k blank) at in
-          (step-node entries v6 cells sound t c.args.bits small l _ there read,
-          step-row entries v6 cells sound t c.args.bits small l c.loop-level.row c.better-row.result _ (omega (arith, less)) there read c.better-row.ensures.kept c.better-row.ensures.new told.1);
+          let read = ap (λ k. get_or cells k blank) at in (
+            step-node entries v6 cells sound t c.args.bits small l _ there read,
+            step-row entries v6 cells sound t c.args.bits small l c.loop-level.row c.better-row.result _ (omega (arith, less)) there read c.better-row.ensures.kept c.better-row.ensures.new told.1,
+          );
     }
 
 pub returns-clause-told : goal.returns-clause-told

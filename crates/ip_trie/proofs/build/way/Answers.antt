@@ -44,7 +44,7 @@ pub loop-level-preserved : goal.loop-level-preserved
 loop-level-preserved c =
     let entries = c.args.entries.now in
     let bits : c.digit_of.result ≡ digit c.loop-level.level (entry_at entries c.args.row).bits =
-        c.digit_of.ensures.is ∙ ap (λ (e : Entry). digit c.loop-level.level e.bits) (any-default entries c.args.row _ no_entry c.requires.row.0) in
+    c.digit_of.ensures.is ∙ ap (λ (e : Entry). digit c.loop-level.level e.bits) (any-default entries c.args.row _ no_entry c.requires.row.0) in
     record {
       grown = way-more entries c.args.v6 c.args.row c.loop-level.level c.loop-level.start c.in_ok-start.start c.loop-level.cells.items c.grow.new.cells.items c.requires.entries c.requires.row (let l = c.requires.last in let t = c.loop-level-test.true in omega (arith, l, t)) c.loop-level.invariant.grown
           (subst (λ k. Grows c.loop-level.cells.items (c.loop-level.start + k) c.grow.new.cells.items c.in_ok-start.start) bits c.in_ok-start.ensures.grows);

@@ -57,9 +57,10 @@ loop-level-preserved g c =
           let told = c.loop-level.invariant.told entries v6 sound are in
           let there : node cells bits l ≢ 0 = λ z. c.if-cell-eq0.false (told.0 ∙ z) in
           let at : node cells bits l + digit l bits ≡ c.loop-level.cell.next + c.digit_of.result = let a = told.0 in let b = c.digit_of.ensures.is in omega (arith, a, b) in
-          let here = ap (λ k. get_or cells k blank) at ∙ read in
-          (step-node entries v6 cells sound filled.trie bits small l _ there here,
-          step-row entries v6 cells sound filled.trie bits small l c.loop-level.best c.better-best.result _ less there here c.better-best.ensures.kept c.better-best.ensures.new told.1);
+          let here = ap (λ k. get_or cells k blank) at ∙ read in (
+            step-node entries v6 cells sound filled.trie bits small l _ there here,
+            step-row entries v6 cells sound filled.trie bits small l c.loop-level.best c.better-best.result _ less there here c.better-best.ensures.kept c.better-best.ensures.new told.1,
+          );
       steps = let s = c.loop-level.invariant.steps in let b = c.at-cell-in-loop-level.ensures.bound in omega (arith, s, b, low);
       shares = λ entries v6 sound are.
           let filled = filled-of entries v6 cells (λ none. (let t = c.if-is_empty.ensures.1 none in search rules)) are in
