@@ -1,14 +1,14 @@
 -- A trie with one node more.
-use Rattle.std.proofs.Common.{◌≡◌, ◌≢◌, ◌⊎◌, Bool, ℕ, zero, suc, ◌+◌, ◌-◌, ◌*◌, ◌%◌, ◌^◌, ◌<◌, ◌≤◌, List, [], ◌∷◌, ◌++◌, length, get_or, set, replicate, inl, inr, refl, arith, sym, ◌∙◌, ap, subst, get_or-set_same, get_or-set_other, length-set, length-append}
+use Rattle.std.proofs.Common.{◌≡◌, ◌≢◌, ◌⊎◌, Bool, ℕ, zero, suc, ◌+◌, ◌-◌, ◌*◌, ◌%◌, ◌^◌, ◌<◌, ◌≤◌, List, ◌++◌, length, get_or, set, replicate, inl, inr, refl, arith, sym, ◌∙◌, ap, subst, get_or-set_same, get_or-set_other, length-set, length-append}
 use Rattle.std.proofs.lemmas.Bool.{cases_eq, cases_lt}
 use Rattle.std.proofs.lemmas.List.{get_or-append_right, get_or_append_left, get_or_past, length-replicate}
-use Rattle.ip_trie.specs.Cells.{AreEntries, EndsAt, IsIn, IsTrie, Shares, TellsBest, below, blank, digit, entry_at, level_of, next_at, node, row_at, top}
+use Rattle.ip_trie.specs.Cells.{AreEntries, EndsAt, IsIn, IsTrie, TellsBest, below, blank, digit, entry_at, level_of, next_at, node, row_at, top}
 use Rattle.ip_trie.specs.declared.cells.Cell.{Cell}
 use Rattle.ip_trie.specs.declared.cells.Entry.{Entry}
 use Rattle.ip_trie.specs.declared.cells.TheConstants.{TABLE}
 use Rattle.ip_trie.specs.steps.Growing.{Grows, IsGrown}
 use Rattle.ip_trie.proofs.Bits.{digit-small, level-below, level-within, level-least, same-more, same-top}
-use Rattle.ip_trie.proofs.Nodes.{below-none, below-some, next-past, node-agree, node-more, node-next, node-none, node-sound, node-suc, row-past}
+use Rattle.ip_trie.proofs.Nodes.{below-none, below-some, next-past, node-agree, node-next, node-none, node-sound, node-suc, row-past}
 
 -- ---- sixteen cells more, below one
 

@@ -1,11 +1,10 @@
 -- A trie with a row more.
-use Rattle.std.proofs.Common.{◌≡◌, ◌≢◌, ◌⊎◌, Bool, ℕ, ◌+◌, ◌-◌, ◌*◌, ◌%◌, ◌^◌, ◌<◌, ◌≤◌, List, length, inl, inr, refl, arith, sym, ◌∙◌, ap, subst}
+use Rattle.std.proofs.Common.{◌≡◌, ◌≢◌, ◌⊎◌, Bool, ℕ, ◌+◌, ◌-◌, ◌*◌, ◌^◌, ◌<◌, ◌≤◌, List, inl, inr, arith, sym, ◌∙◌, ap, subst}
 use Rattle.std.proofs.lemmas.Bool.{cases_eq, cases_lt}
-use Rattle.ip_trie.specs.Cells.{AreEntries, EndsAt, Has, IsIn, IsTrie, TellsBest, digit, entry_at, level_of, next_at, node, row_at, top}
+use Rattle.ip_trie.specs.Cells.{AreEntries, EndsAt, IsIn, IsTrie, TellsBest, digit, entry_at, level_of, node, row_at, top}
 use Rattle.ip_trie.specs.declared.cells.Cell.{Cell}
 use Rattle.ip_trie.specs.declared.cells.Entry.{Entry}
-use Rattle.ip_trie.specs.declared.cells.TheConstants.{TABLE}
-use Rattle.ip_trie.specs.steps.Growing.{AreBettered, IsBettered, IsGrown}
+use Rattle.ip_trie.specs.steps.Growing.{AreBettered, IsGrown}
 use Rattle.ip_trie.proofs.Bits.{covered-from, covered-to, covered-within, digit-small, level-within}
 use Rattle.ip_trie.proofs.Nodes.{node-agree, node-same, node-sound}
 use Rattle.ip_trie.proofs.Tells.{tells-bettered, tells-same}

@@ -1,6 +1,6 @@
 -- The nodes on the way of some bits.
-use Rattle.std.proofs.Common.{◌≡◌, ◌≢◌, ℕ, zero, suc, ◌+◌, ◌-◌, ◌*◌, ◌/◌, ◌%◌, ◌^◌, ◌<◌, ◌≤◌, List, length, get_or, cond, eqb, inl, inr, refl, arith, sym, ◌∙◌, ap, subst, ne_eqb}
-use Rattle.std.proofs.lemmas.Bool.{cases_eq, cases_lt}
+use Rattle.std.proofs.Common.{◌≡◌, ◌≢◌, ℕ, zero, suc, ◌+◌, ◌*◌, ◌%◌, ◌≤◌, List, length, cond, eqb, inl, inr, refl, arith, sym, ◌∙◌, ap, subst, ne_eqb}
+use Rattle.std.proofs.lemmas.Bool.{cases_eq}
 use Rattle.std.proofs.lemmas.List.{get_or_past}
 use Rattle.ip_trie.specs.Cells.{below, blank, digit, next_at, node, row_at, top}
 use Rattle.ip_trie.specs.declared.cells.Cell.{Cell}

@@ -1,17 +1,17 @@
 -- Rows as prefixes of texts and as entries.
 use Rattle.std.specs.List.{slice_get}
-use Rattle.std.proofs.Common.{◌≡◌, ◌≢◌, ◌⊎◌, Bool, true, false, cond, ℕ, zero, suc, ◌+◌, ◌-◌, ◌*◌, ◌/◌, ◌%◌, ◌^◌, ◌<◌, ◌≤◌, List, [], ◌∷◌, ◌++◌, length, get_or, Option, Some, None, Ok, inl, inr, refl, arith, sym, ◌∙◌, ap, subst, length-append}
+use Rattle.std.proofs.Common.{◌≡◌, ◌≢◌, ◌⊎◌, Bool, true, false, cond, ℕ, zero, suc, ◌+◌, ◌-◌, ◌*◌, ◌/◌, ◌%◌, ◌^◌, ◌<◌, ◌≤◌, List, [], ◌∷◌, ◌++◌, length, Option, Some, None, Ok, inl, inr, refl, arith, sym, ◌∙◌, ap, subst, length-append}
 use Rattle.std.proofs.lemmas.Bool.{cases_eq, cases_lt}
 use Rattle.std.proofs.lemmas.List.{get_or_append_left, get_or_past, get_or_push}
 use Rattle.dict_value.specs.Numbers.{given}
 use Rattle.dict_value.specs.declared.value.BadValue.TheVariants.{BadAddress}
 use Rattle.std.proofs.lemmas.Nat.{shl-shr, shr-shr, shr_split}
 use Rattle.std.proofs.lemmas.Option.{get_or_from_slice_get, slice_get_within}
-use Rattle.dict_value.specs.Addresses.{IsPrefix, first_bits, prefix_in, prefix_of, prefix_width}
+use Rattle.dict_value.specs.Addresses.{IsPrefix, first_bits, prefix_of, prefix_width}
 use Rattle.dict_value.specs.declared.value.Address.{Address}
 use Rattle.dict_value.specs.declared.value.Address.TheVariants as address
 use Rattle.dict_value.specs.declared.value.Prefix.{Prefix}
-use Rattle.ip_trie.specs.Cells.{AreEntries, Has, IsIn, IsNoBetter, Shares, TellsBest, aligned, entry_at, entry_of, no_entry, top}
+use Rattle.ip_trie.specs.Cells.{AreEntries, Has, Shares, TellsBest, aligned, entry_at, entry_of, no_entry, top}
 use Rattle.ip_trie.specs.FindByAddress.{FindsByAddress, HasInCommon, HasPrefixAt, Holds, IsLongest, shortened}
 use Rattle.ip_trie.specs.Kept.{AreEntriesOf}
 use Rattle.ip_trie.specs.declared.cells.Entry.{Entry}

@@ -1,5 +1,5 @@
 -- The search in a trie.
-use Rattle.std.proofs.Common.{◌≡◌, ◌≢◌, ◌⊎◌, Bool, ℕ, zero, suc, ◌+◌, ◌-◌, ◌*◌, ◌%◌, ◌^◌, ◌<◌, ◌≤◌, List, [], length, get_or, set, Some, inl, inr, refl, arith, sym, ◌∙◌, ap, subst, get_or-set_same, get_or-set_other, length-set}
+use Rattle.std.proofs.Common.{◌≡◌, ◌≢◌, ◌⊎◌, Bool, ℕ, zero, suc, ◌+◌, ◌-◌, ◌*◌, ◌^◌, ◌<◌, ◌≤◌, List, [], length, get_or, set, Some, inl, inr, refl, arith, sym, ◌∙◌, ap, subst, get_or-set_same, get_or-set_other, length-set}
 use Rattle.std.specs.List.{slice_get}
 use Rattle.std.proofs.lemmas.Bool.{cases_eq, cases_lt}
 use Rattle.std.proofs.lemmas.Option.{get_or_from_slice_get}
@@ -10,7 +10,7 @@ use Rattle.ip_trie.specs.declared.cells.Entry.{Entry}
 use Rattle.ip_trie.specs.declared.cells.TheConstants.{TABLE}
 use Rattle.ip_trie.proofs.Bits.{level-least, level-most, level-within, same-top, top-none}
 use Rattle.ip_trie.proofs.Nodes.{next-past, node-agree, node-next, node-same, node-sound, node-up}
-use Rattle.ip_trie.proofs.Tells.{tells-above, tells-all, tells-by, tells-level}
+use Rattle.ip_trie.proofs.Tells.{tells-by, tells-level}
 
 module _ (entries : List Entry) (v6 : Bool) (cells : List Cell) (sound : AreEntries entries) (t : IsTrie entries v6 (length entries) cells) (bits : ℕ) (small : bits < 2 ^ 128) where
   -- where a way ends, all rows that hold the bits end above

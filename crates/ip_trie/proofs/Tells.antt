@@ -1,7 +1,7 @@
 -- The best of some rows.
-use Rattle.std.proofs.Common.{◌≡◌, ◌≢◌, ◌⊎◌, Bool, ℕ, ◌+◌, ◌-◌, ◌*◌, ◌<◌, ◌≤◌, List, length, inl, inr, refl, arith, sym, ◌∙◌, ap, subst}
+use Rattle.std.proofs.Common.{◌≡◌, ◌≢◌, ◌⊎◌, Bool, ℕ, ◌+◌, ◌-◌, ◌<◌, ◌≤◌, List, length, inl, inr, refl, arith, sym, ◌∙◌, ap, subst}
 use Rattle.std.proofs.lemmas.Bool.{cases_eq, cases_lt}
-use Rattle.ip_trie.specs.Cells.{EndsAbove, EndsAt, Has, IsIn, IsNoBetter, TellsBest, entry_at, level_of}
+use Rattle.ip_trie.specs.Cells.{EndsAbove, EndsAt, Has, TellsBest, entry_at, level_of}
 use Rattle.ip_trie.specs.declared.cells.Entry.{Entry}
 use Rattle.ip_trie.specs.steps.Growing.{IsBettered}
 

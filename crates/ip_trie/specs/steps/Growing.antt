@@ -1,7 +1,7 @@
 -- How a trie grows by a row.
-use Rattle.std.specs.Prelude.{◌≡◌, ◌≢◌, ◌+◌, ◌-◌, ◌*◌, ◌^◌, ◌<◌, ◌≤◌, ◌⊎◌, ◌++◌, ℕ, Bool, List, length, replicate, slice_index_or, slice_set}
+use Rattle.std.specs.Prelude.{◌≡◌, ◌≢◌, ◌+◌, ◌-◌, ◌<◌, ◌≤◌, ◌⊎◌, ◌++◌, ℕ, Bool, List, length, replicate, slice_index_or, slice_set}
 use Rattle.ip_trie.specs.Cells.{blank, next_at, row_at}
-use Rattle.ip_trie.specs.Cells.{Has, IsNoBetter, IsTrie, entry_at, level_of, node}
+use Rattle.ip_trie.specs.Cells.{IsTrie, entry_at, node}
 use Rattle.ip_trie.specs.declared.cells.Cell.{Cell}
 use Rattle.ip_trie.specs.declared.cells.Entry.{Entry}
 

@@ -1,5 +1,5 @@
 -- From the empty trie to that of all rows, and its table.
-use Rattle.std.proofs.Common.{◌≡◌, ◌≤◌, ◌+◌, ◌*◌, ℕ, length, inr, arith, subst}
+use Rattle.std.proofs.Common.{◌≡◌, length, inr, arith, subst}
 use Rattle.ip_trie.specs.Cells.{IsTrie}
 use Rattle.ip_trie.proofs.Scans.{empty-trie}
 use Rattle.ip_trie.proofs.build.cells_of.Goals as goal

@@ -1,12 +1,11 @@
 -- An entry more.
 use Rattle.std.specs.List.{slice_get}
-use Rattle.std.proofs.Common.{◌≡◌, ◌≢◌, ◌<◌, ◌≤◌, ◌+◌, ◌%◌, ◌-◌, ◌^◌, ℕ, List, [], ◌∷◌, ◌++◌, length, get_or, Some, inl, inr, refl, arith, subst, sym, ap, ◌∙◌, length-append}
+use Rattle.std.proofs.Common.{◌≡◌, ℕ, List, [], ◌∷◌, ◌++◌, length, Some, inl, inr, refl, arith, subst, sym, ap, ◌∙◌, length-append}
 use Rattle.std.proofs.lemmas.Bool.{cases_lt}
 use Rattle.std.proofs.lemmas.Grind.{common_steps}
 use Rattle.std.proofs.lemmas.Option.{slice_get_read, slice_get_within}
-use Rattle.dict_value.specs.Addresses.{IsPrefix, prefix_in}
-use Rattle.dict_value.specs.declared.value.Prefix.{Prefix}
-use Rattle.ip_trie.specs.Cells.{AreEntries, entry_of}
+use Rattle.dict_value.specs.Addresses.{prefix_in}
+use Rattle.ip_trie.specs.Cells.{AreEntries}
 use Rattle.ip_trie.specs.declared.cells.Entry.{Entry}
 use Rattle.ip_trie.proofs.Lists.{get-append_here, get-append_left}
 use Rattle.ip_trie.proofs.RowPrefixes.{entries-push, reads-prefix}

@@ -1,6 +1,6 @@
 -- A slot more.
-use Rattle.std.proofs.Common.{◌≡◌, ◌≢◌, ◌⊎◌, Bool, ◌<◌, ◌≤◌, ◌+◌, ◌*◌, ◌/◌, ◌%◌, ◌^◌, ℕ, List, length, get_or, set, inl, inr, refl, arith, subst, sym, ap, ◌∙◌, length-set}
-use Rattle.std.proofs.lemmas.Bool.{cases_eq, cases_lt}
+use Rattle.std.proofs.Common.{◌≡◌, ◌≢◌, ◌⊎◌, Bool, ◌<◌, ◌≤◌, ◌*◌, ◌%◌, ◌^◌, ℕ, List, length, set, inl, inr, refl, arith, subst, sym, ◌∙◌, length-set}
+use Rattle.std.proofs.lemmas.Bool.{cases_eq}
 use Rattle.ip_trie.specs.Cells.{AreEntries, EndsAbove, IsSlot, IsTrie, TellsBest, next_at, node, top}
 use Rattle.ip_trie.specs.declared.cells.Cell.{Cell}
 use Rattle.ip_trie.specs.declared.cells.Entry.{Entry}

@@ -1,13 +1,12 @@
 -- A row more, or one of the other family.
-use Rattle.std.proofs.Common.{◌≡◌, ◌≢◌, ◌<◌, ◌≤◌, ◌+◌, ◌-◌, ◌*◌, ◌^◌, ℕ, List, length, get_or, arith, subst, sym, ap, ◌∙◌}
+use Rattle.std.proofs.Common.{◌≡◌, ◌+◌, ◌-◌, ◌*◌, ◌^◌, arith, subst, sym, ap, ◌∙◌}
 use Rattle.ip_trie.specs.Cells.{digit, entry_at, level_of, no_entry}
-use Rattle.ip_trie.specs.declared.cells.Cell.{Cell}
 use Rattle.ip_trie.specs.declared.cells.Entry.{Entry}
 use Rattle.ip_trie.specs.steps.Growing.{AreBettered}
-use Rattle.ip_trie.proofs.Bits.{covered-within, level-within}
+use Rattle.ip_trie.proofs.Bits.{covered-within}
 use Rattle.ip_trie.proofs.Grown.{way-room}
 use Rattle.ip_trie.proofs.Lists.{any-default, same-bool}
-use Rattle.ip_trie.proofs.Marks.{marked-trie, other-family}
+use Rattle.ip_trie.proofs.Marks.{marked-trie}
 use Rattle.ip_trie.proofs.build.put.Goals as goal
 
 pub overflow_add-from : goal.overflow_add-from

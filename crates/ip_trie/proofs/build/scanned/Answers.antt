@@ -1,5 +1,5 @@
 -- The first four levels.
-use Rattle.std.proofs.Common.{◌≡◌, ◌≢◌, ◌+◌, ◌-◌, ◌<◌, ◌≤◌, ◌^◌, ℕ, List, length, get_or, inl, inr, refl, arith, sym, ◌∙◌, ap, subst}
+use Rattle.std.proofs.Common.{◌≡◌, ◌≢◌, ◌+◌, ◌-◌, ◌<◌, ◌^◌, get_or, inl, inr, refl, arith, sym, ◌∙◌, ap, subst}
 use Rattle.ip_trie.specs.Cells.{EndsAbove, TellsBest, blank, digit, node}
 use Rattle.ip_trie.proofs.Nodes.{node-none, node-past}
 use Rattle.ip_trie.proofs.Scans.{ended, step-node, step-row}

@@ -1,5 +1,5 @@
 -- The way begins at the root, and goes on by a node.
-use Rattle.std.proofs.Common.{◌≡◌, ◌<◌, ◌≤◌, ◌+◌, ◌*◌, ℕ, List, length, get_or, arith, subst, sym, ap, ◌∙◌}
+use Rattle.std.proofs.Common.{◌≡◌, ◌+◌, arith, subst, ap, ◌∙◌}
 use Rattle.ip_trie.specs.Cells.{digit, entry_at, no_entry}
 use Rattle.ip_trie.specs.declared.cells.Entry.{Entry}
 use Rattle.ip_trie.specs.steps.Growing.{Grows}

@@ -1,5 +1,5 @@
 -- The bits past the length are cleared.
-use Rattle.std.proofs.Common.{◌≡◌, ◌≤◌, ◌%◌, ◌-◌, ◌^◌, ◌<◌, ℕ, cond, ap, subst}
+use Rattle.std.proofs.Common.{◌≡◌, ◌≤◌, ◌%◌, ◌-◌, ◌^◌, ◌<◌, cond, ap, subst}
 use Rattle.dict_value.specs.Addresses.{prefix_width}
 use Rattle.ip_trie.proofs.Bits.{cleared-short}
 use Rattle.ip_trie.proofs.cells.entry_of.Goals as goal

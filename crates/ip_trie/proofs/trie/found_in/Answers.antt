@@ -1,6 +1,6 @@
 -- A step for each level.
-use Rattle.std.proofs.Common.{◌≡◌, ◌≢◌, ◌⊎◌, ◌+◌, ◌-◌, ◌*◌, ◌<◌, ◌≤◌, ◌^◌, ℕ, List, [], length, get_or, inl, inr, refl, arith, sym, ◌∙◌, ap, subst, rules}
-use Rattle.ip_trie.specs.Cells.{EndsAbove, Shares, TellsBest, blank, digit, node, top}
+use Rattle.std.proofs.Common.{◌≡◌, ◌≢◌, ◌+◌, ◌-◌, ◌*◌, ◌<◌, ◌≤◌, ◌^◌, get_or, inl, inr, refl, arith, sym, ◌∙◌, ap, subst, rules}
+use Rattle.ip_trie.specs.Cells.{EndsAbove, TellsBest, blank, digit, node}
 use Rattle.ip_trie.specs.declared.cells.Cell.{Cell}
 use Rattle.ip_trie.proofs.Scans.{cell-read, ended, ended-all, filled-of, next-shared, step-node, step-row}
 use Rattle.ip_trie.proofs.Tells.{tells-all}

@@ -1,5 +1,5 @@
 -- The best of the family's rows.
-use Rattle.std.proofs.Common.{◌≡◌, ◌≢◌, ◌⊎◌, ◌<◌, ◌*◌, ◌%◌, ◌^◌, ℕ, true, false, refl, arith, subst, sym, ap, ◌∙◌}
+use Rattle.std.proofs.Common.{◌≡◌, ◌⊎◌, ◌*◌, ◌%◌, ◌^◌, true, false, arith, subst, sym}
 use Rattle.ip_trie.specs.Cells.{Has, Shares, TellsBest}
 use Rattle.ip_trie.proofs.RowPrefixes.{IsBits, found-none, found-some, in-common, long, short}
 use Rattle.ip_trie.proofs.trie.Trie.best_for.Goals as goal
