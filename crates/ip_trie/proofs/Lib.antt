@@ -1,0 +1,9 @@
+-- Lemmas of this crate.
+pub mod Bits
+pub mod Grown
+pub mod Lists
+pub mod Marks
+pub mod Nodes
+pub mod RowPrefixes
+pub mod Scans
+pub mod Tells

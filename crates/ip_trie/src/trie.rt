@@ -1,0 +1,111 @@
+// The tries of both families, and the search in them.
+ghost use Rattle.std.specs.Prelude.{◌≡◌, ◌≢◌, ◌+◌, ◌-◌, ◌≤◌, ◌⊎◌, ℕ, Bool, List, All, None, Some, Err, IfErr, IfOk, IsSome};
+ghost use Rattle.std.specs.Prelude.{OnOk, length};
+ghost use Rattle.dict_value.specs.Addresses.{prefix_in};
+ghost use Rattle.dict_value.specs.Memory.{UnlessNoMemory};
+ghost use Rattle.dict_value.specs.declared.value.TheConstants.{MOST_ROWS};
+ghost use Rattle.ip_trie.specs.Cells.{AreEntries, Has, IsClosed, Shares, TellsBest};
+ghost use Rattle.ip_trie.specs.FindByAddress.{FindsByAddress, HasInCommon, IsRefusedFor};
+ghost use Rattle.ip_trie.specs.Kept.{AreCellsOf, AreTriesOf};
+ghost use Rattle.ip_trie.specs.declared.cells.Entry.{Entry};
+ghost use Rattle.ip_trie.specs.declared.trie.TrieFault.TheVariants as fault;
+
+use crate::build::{cells_of, entries_of};
+use crate::cells::{Cell, better, digit_of, slot_of};
+use dict_value::{Address, Bytes, Counted, Counter, ListOf};
+use std::alloc::Global;
+
+/// Why a list of texts has no trie.
+#[derive(Clone, Copy, Debug, PartialEq, Eq)]
+pub enum TrieFault {
+    /// The first row whose text is no prefix, counted from 1.
+    BadPrefix(u32),
+    NoMemory,
+}
+
+/// The prefixes of each family: a table of the first 16 bits, and behind it a trie of four bits a level. A
+/// family without rows has no cells.
+#[derive(Drop)]
+pub struct Trie<S> {
+    v4: Counted<Cell, S>,
+    v6: Counted<Cell, S>,
+    ghost closed_v4: { IsClosed v4 },
+    ghost closed_v6: { IsClosed v6 },
+}
+
+/// One more than the row with the longest prefix that holds some bits, or 0.
+#[inline(always)]
+fn found_in<S: Counter>(cells: &Counted<Cell, S>, bits: u128, steps: &mut S) -> u32
+    requires { IsClosed cells.now }
+    ensures found { (entries : List Entry) (v6 : Bool) → AreEntries entries
+        → AreCellsOf entries v6 cells.now → TellsBest entries (Has entries v6 bits) result }
+    ensures steps { (entries : List Entry) (v6 : Bool) → AreEntries entries
+        → AreCellsOf entries v6 cells.now → (count : ℕ) × ((count ≡ 0) ⊎ Shares entries v6 bits count)
+        × (S.amount steps.new ≤ S.amount steps.old + (count + 1)) }
+{
+    if cells.is_empty() {
+        return 0;
+    }
+    let mut cell = cells.at(slot_of(bits), steps);
+    let mut best = cell.row;
+    for level in 4..32 {
+        if cell.next == 0 {
+            return best;
+        }
+        cell = cells.at(cell.next as usize + digit_of(bits, level), steps);
+        best = better(best, cell.row);
+    }
+    best
+}
+
+impl<S: Counter> Trie<S> {
+    /// The trie of a list of prefix texts.
+    pub fn build(alloc: Global, texts: &[Bytes]) -> Result<Trie<S>, TrieFault>
+        requires { length texts.now ≤ MOST_ROWS }
+        ensures trie { IfOk result (λ trie. AreTriesOf texts.now trie.v4 trie.v6) }
+        ensures read { OnOk result (All (λ text. IsSome (prefix_in text)) texts.now) }
+        ensures bad { UnlessNoMemory (Err fault.NoMemory) result (IfErr result (IsRefusedFor texts.now)) }
+    {
+        let entries = entries_of(alloc, texts)?;
+        let Ok(v4) = cells_of(alloc, entries.as_slice(), false) else {
+            return Err(TrieFault::NoMemory);
+        };
+        let Ok(v6) = cells_of(alloc, entries.as_slice(), true) else {
+            return Err(TrieFault::NoMemory);
+        };
+        Ok(Trie {
+            v4: Counted::from_list(ListOf::from_vec(v4)),
+            v6: Counted::from_list(ListOf::from_vec(v6)),
+        })
+    }
+
+    /// The row with the longest prefix that holds the address, of equal ones the first, in at most one step
+    /// more than the bits that a prefix of the family has in common with it, and without taking memory.
+    pub fn find(&self, address: &Address, steps: &mut S) -> Option<u32>
+        ensures found { (texts : List (List ℕ)) → AreTriesOf texts self.now.v4 self.now.v6
+            → FindsByAddress texts address.now result }
+        ensures steps { (texts : List (List ℕ)) → AreTriesOf texts self.now.v4 self.now.v6
+            → (count : ℕ) × HasInCommon texts address.now count
+            × (S.amount steps.new ≤ S.amount steps.old + (count + 1)) }
+    {
+        let best = self.best_for(address, steps);
+        if best == 0 { None } else { Some(best - 1) }
+    }
+
+    /// One more than that row, or 0.
+    #[inline(always)]
+    fn best_for(&self, address: &Address, steps: &mut S) -> u32
+        ensures none { (texts : List (List ℕ)) → AreTriesOf texts self.now.v4 self.now.v6
+            → result ≡ 0 → FindsByAddress texts address.now None }
+        ensures some { (texts : List (List ℕ)) → AreTriesOf texts self.now.v4 self.now.v6
+            → result ≢ 0 → FindsByAddress texts address.now (Some (result - 1)) }
+        ensures steps { (texts : List (List ℕ)) → AreTriesOf texts self.now.v4 self.now.v6
+            → (count : ℕ) × HasInCommon texts address.now count
+            × (S.amount steps.new ≤ S.amount steps.old + (count + 1)) }
+    {
+        match address {
+            Address::V4(bits) => found_in(&self.v4, u128::from(*bits) << 96, steps),
+            Address::V6(bits) => found_in(&self.v6, *bits, steps),
+        }
+    }
+}
