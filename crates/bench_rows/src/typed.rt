@@ -1,7 +1,8 @@
 // All rows of a text as values: a number and a text each.
 use crate::Figures;
 use dict_schema::{Role, Shape, ShapeColumn};
-use dict_value::{AttrType, ColType, Format, ListOf, NoMemory, Row, Rows, Value, default_of};
+use dict_value::{AttrType, ColType, Format, ListOf, NoMemory, default_of};
+use packed_rows::{Cell, Rows};
 use rows_typed::decode;
 use std::alloc::Global;
 
@@ -54,19 +55,16 @@ fn figures(rows: &Rows) -> Figures {
         fields: 0,
         bytes: 0,
     };
-    for row in rows.as_slice() {
-        found.fields = found.fields.saturating_add(row.len());
-        found.bytes = found.bytes.saturating_add(row_bytes(row));
-    }
-    found
-}
-
-fn row_bytes(row: &Row) -> usize {
-    let mut count: usize = 0;
-    for value in row.as_slice() {
-        if let Value::S(text) = value {
-            count = count.saturating_add(text.len());
+    for place in 0..rows.len() {
+        for column in 0..COLUMNS.len() {
+            let Some(cell) = rows.get(place, column) else {
+                break;
+            };
+            found.fields = found.fields.saturating_add(1);
+            if let Cell::S(text) = cell {
+                found.bytes = found.bytes.saturating_add(text.len());
+            }
         }
     }
-    count
+    found
 }
