@@ -1,4 +1,7 @@
 // All rows of a text as values: a number and a text each.
+ghost use Rattle.std.specs.Prelude.{IfOk};
+ghost use Rattle.rows_typed.specs.Fits.{HasFittingDefaults};
+
 use crate::Figures;
 use dict_schema::{Role, Shape, ShapeColumn};
 use dict_value::{AttrType, ColType, Format, ListOf, NoMemory, default_of};
@@ -12,7 +15,9 @@ const COLUMNS: [(ColType, Role); 2] = [
     (ColType::Str, Role::Attribute),
 ];
 
-fn shape(alloc: Global) -> Result<Shape, NoMemory> {
+fn shape(alloc: Global) -> Result<Shape, NoMemory>
+    ensures { IfOk result HasFittingDefaults }
+{
     let mut shape = ListOf::new(alloc);
     for (base, role) in COLUMNS {
         let ty = AttrType {
