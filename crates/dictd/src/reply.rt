@@ -1,8 +1,9 @@
 // Replies, composed in a buffer that is used again for each of them.
-ghost use Rattle.std.specs.Prelude.{◌≡◌, ◌++◌, ◌∷◌, [], OnOk, find, codes};
-ghost use Rattle.std.specs.Option.{option_copied};
+ghost use Rattle.std.specs.Prelude.{◌≡◌, ◌++◌, ◌∷◌, [], None, OnOk, find, codes, slice_get};
+ghost use Rattle.std.specs.Option.{option_map, option_map_or};
+ghost use Rattle.packed_rows.specs.Cells.{meaning};
 ghost use Rattle.dictd.specs.Requests.{version_name, load_reply, text_of_attribute};
-ghost use Rattle.dictd.specs.ThinRows.{has_key, text_at, text_behind_key};
+ghost use Rattle.dictd.specs.ThinRows.{has_key, is_key, text_at, text_of_cell};
 
 use crate::ending::LoadEnd;
 use dict_value::{Bytes, NoMemory};
@@ -17,10 +18,10 @@ pub const NO_MEMORY_REPLY: &[u8] = b"ERR\t99\n";
 pub const TOO_LONG_REPLY: &[u8] = b"ERR\t13\n";
 
 /// Whether a row's first value is the key.
-fn is_key(cell: Option<Cell<'_>>, key: u64) -> bool
-    ensures { result ≡ is_key key (option_map meaning cell) }
+fn is_key(cell: &Option<Cell<'_>>, key: u64) -> bool
+    ensures { result ≡ is_key key (option_map meaning cell.now) }
 {
-    match cell {
+    match *cell {
         Some(Cell::U(n)) => n == key,
         _ => false,
     }
@@ -31,7 +32,7 @@ fn find_row(rows: &Rows, key: u64) -> Option<usize>
     ensures { option_map_or (λ place. slice_get rows.now place) result None ≡ find (has_key key) rows.now }
 {
     for place in 0..rows.len() {
-        if is_key(rows.get(place, 0), key) {
+        if is_key(&rows.get(place, 0), key) {
             return Some(place);
         }
     }
@@ -39,10 +40,10 @@ fn find_row(rows: &Rows, key: u64) -> Option<usize>
 }
 
 /// The text of a cell, where it has one.
-fn text_of_cell(cell: Option<Cell<'_>>) -> &[u8]
-    ensures { result.now ≡ text_of_cell (option_map meaning cell) }
+fn text_of_cell<'a>(cell: &Option<Cell<'a>>) -> &'a [u8]
+    ensures { result.now ≡ text_of_cell (option_map meaning cell.now) }
 {
-    match cell {
+    match *cell {
         Some(Cell::S(text)) => text,
         _ => b"",
     }
@@ -53,7 +54,7 @@ pub fn first_text(rows: &Rows, key: u64) -> &[u8]
     ensures { result.now ≡ text_at rows.now key }
 {
     match find_row(rows, key) {
-        Some(place) => text_of_cell(rows.get(place, 1)),
+        Some(place) => text_of_cell(&rows.get(place, 1)),
         None => b"",
     }
 }

@@ -22,11 +22,11 @@ pub enum TableFault {
 }
 
 /// A row's first value as a key that a flat layout doesn't take.
-fn large_key(cell: Option<Cell<'_>>) -> Option<u64>
-    ensures { MatchOption result (IsSmallCell (option_map meaning cell))
-        (λ key. (option_map meaning cell ≡ Some (U key)) × (KEY_BOUND ≤ key)) }
+fn large_key(cell: &Option<Cell<'_>>) -> Option<u64>
+    ensures { MatchOption result (IsSmallCell (option_map meaning cell.now))
+        (λ key. (option_map meaning cell.now ≡ Some (U key)) × (KEY_BOUND ≤ key)) }
 {
-    match cell {
+    match *cell {
         Some(Cell::U(key)) if key >= KEY_BOUND => Some(key),
         _ => None,
     }
@@ -37,7 +37,7 @@ fn first_large_key(rows: &Rows) -> Option<u64>
     ensures { MatchOption result (AllByRecursion HasSmallKey rows.now) (IsFirstLarge rows.now) }
 {
     for place in 0..rows.len() {
-        if let Some(key) = large_key(rows.get(place, 0)) {
+        if let Some(key) = large_key(&rows.get(place, 0)) {
             return Some(key);
         }
     }
