@@ -48,7 +48,9 @@ find-skips (row ∷ rows) (suc place) key below other = find-skips rows place ke
 
 -- a row without the key is passed
 pub find-passed : (rows : Table) (place key : ℕ) → place < length rows → is_key key (cell_at rows place 0) ≡ false → find (has_key key) (drop place rows) ≡ find (has_key key) (drop (place + 1) rows)
-find-passed rows place key below other = find-skips rows place key below other ∙ ap (λ n. find (has_key key) (drop n rows)) (omega arith)
+find-passed rows place key below other =
+    let next : suc place ≡ place + 1 = omega arith in
+    find-skips rows place key below other ∙ ap (λ n. find (has_key key) (drop n rows)) next
 
 -- a row with the key is found
 pub find-here : (rows : Table) (place key : ℕ) → place < length rows → is_key key (cell_at rows place 0) ≡ true → slice_get rows place ≡ find (has_key key) (drop place rows)
