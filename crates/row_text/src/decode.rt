@@ -64,7 +64,8 @@ pub trait Columns {
     /// What the column at a place makes of a field.
     fn read(&self, alloc: Global, place: usize, field: Field) -> Result<Value, BadValue>
         requires { place < length (columns self.now) }
-        ensures { (column : Reader) → slice_get (columns self.now) place ≡ Some column → Reads column field result };}
+        ensures { (column : Reader) → slice_get (columns self.now) place ≡ Some column → Reads column field result };
+}
 
 /// The typed rows of a whole text, or its first bad row, or that it has too many.
 pub fn decode_rows<C: Columns>(

@@ -8,12 +8,12 @@ ghost use Rattle.dict_value.specs.Letters.{is_blank_byte};
 ghost use Rattle.rows_typed.specs.Shapes.{is_null_text, column_by, value_at, without_blanks};
 
 use dict_schema::{Role, ShapeColumn};
+use dict_value::letters::{BACKSLASH, CAPITAL_N, TAB};
 use dict_value::{
     AttrType, BadValue, Bytes, ColType, Field, Format, Value, copy_value, read_digits, read_text,
 };
 use packed_rows::Cell;
 use row_text::Columns;
-use dict_value::letters::{BACKSLASH, CAPITAL_N, TAB};
 use std::alloc::Global;
 
 const SPACE: u8 = b' ';

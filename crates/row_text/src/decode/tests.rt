@@ -12,7 +12,6 @@ struct NullColumn;
 impl Columns for NullColumn {
     ghost use Rattle.std.specs.Prelude.{◌∷◌, [], Ok};
     ghost use Rattle.dict_value.specs.declared.value.Value.TheVariants.{Null};
-
     ghost use Rattle.dict_value.specs.declared.value.ColType.TheVariants as type;
 
     ghost columns = { λ it. (λ field. Ok Null) ∷ [] };
@@ -30,12 +29,7 @@ impl Columns for NullColumn {
         }
     }
 
-    fn read_cell<'a>(
-        &self,
-        _alloc: Global,
-        _place: usize,
-        _text: &'a [u8],
-    ) -> Option<Cell<'a>> {
+    fn read_cell<'a>(&self, _alloc: Global, _place: usize, _text: &'a [u8]) -> Option<Cell<'a>> {
         Some(Cell::Null)
     }
 

@@ -14,7 +14,7 @@ pub returns-in-Ok-new-clause-ok : goal.returns-in-Ok-new-clause-ok
 returns-in-Ok-new-clause-ok g c =
     let size = zip-length ReadsFitting (g.C.Columns.columns c.args.columns.now) (g.C.Columns.types c.args.columns.now) c.requires in (
       c.in-Ok-new.ensures.0 ∙ (c.as_slice.ensures.value ∙ (c.loop-place.invariant
-      ∙ take_all c.loop-place.place (g.C.Columns.types c.args.columns.now) (omega (arith, size, c.loop-place-test.false, c.count-place-end.ensures)))),
+          ∙ take_all c.loop-place.place (g.C.Columns.types c.args.columns.now) (omega (arith, size, c.loop-place-test.false, c.count-place-end.ensures)))),
       c.in-Ok-new.ensures.1,
       c.in-Ok-new.ensures.2,
     )
