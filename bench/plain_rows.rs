@@ -1,6 +1,6 @@
 // The plain program that the proved one is compared with. For fields it splits a text at line feeds and
 // tabs or commas and keeps the same fields; for typed rows it reads a number and keeps a text by the
-// kinds of the columns. It knows no escapes, quotes or want of memory, and takes a bad number as the end.
+// kinds of the columns, as a list of values or as a pair. It knows no escapes, quotes or want of memory, and takes a bad number as the end.
 use std::io::Read;
 use std::time::Instant;
 
