@@ -1,6 +1,6 @@
 // The plain program that the proved one is compared with. For fields it splits a text at line feeds and
 // tabs or commas and keeps the same fields; for typed rows it reads a number and keeps a text by the
-// kinds of the columns. It knows no escapes, quotes or want of memory, and takes a bad number as the end.
+// kinds of the columns, as a list of values or as a pair. It knows no escapes, quotes or want of memory, and takes a bad number as the end.
 use std::io::Read;
 use std::time::Instant;
 
@@ -63,7 +63,33 @@ fn decode(kinds: &[Kind], text: &[u8]) -> Vec<Vec<Value>> {
     table
 }
 
+/// The same rows as pairs: no list for each of them.
+fn pairs(text: &[u8]) -> Vec<(u64, String)> {
+    let mut table = Vec::new();
+    let mut left = text;
+    while let Some(end) = left.iter().position(|b| *b == b'\n') {
+        let line = &left[..end];
+        let Some(tab) = line.iter().position(|b| *b == b'\t') else { break };
+        let Some(number) = std::str::from_utf8(&line[..tab]).ok().and_then(|n| n.parse().ok()) else { break };
+        let Ok(name) = std::str::from_utf8(&line[tab + 1..]) else { break };
+        table.push((number, name.to_string()));
+        left = &left[end + 1..];
+    }
+    table
+}
+
 fn read(work: &str, text: &[u8]) -> Figures {
+    if work == "pairs" {
+        let table = pairs(text);
+        return Figures {
+            rows: table.len(),
+            fields: 2 * table.len(),
+            bytes: table.iter().map(|(number, name)| {
+                std::hint::black_box(*number);
+                name.len()
+            }).sum(),
+        };
+    }
     if work == "decode" {
         let table = decode(&[Kind::Number, Kind::Text], text);
         let bytes = |value: &Value| match value {

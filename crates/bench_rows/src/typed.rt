@@ -1,7 +1,11 @@
 // All rows of a text as values: a number and a text each.
+ghost use Rattle.std.specs.Prelude.{IfOk};
+ghost use Rattle.rows_typed.specs.Fits.{HasFittingDefaults};
+
 use crate::Figures;
 use dict_schema::{Role, Shape, ShapeColumn};
-use dict_value::{AttrType, ColType, Format, ListOf, NoMemory, Row, Rows, Value, default_of};
+use dict_value::{AttrType, ColType, Format, ListOf, NoMemory, default_of};
+use packed_rows::{Cell, Rows};
 use rows_typed::decode;
 use std::alloc::Global;
 
@@ -11,7 +15,9 @@ const COLUMNS: [(ColType, Role); 2] = [
     (ColType::Str, Role::Attribute),
 ];
 
-fn shape(alloc: Global) -> Result<Shape, NoMemory> {
+fn shape(alloc: Global) -> Result<Shape, NoMemory>
+    ensures { IfOk result HasFittingDefaults }
+{
     let mut shape = ListOf::new(alloc);
     for (base, role) in COLUMNS {
         let ty = AttrType {
@@ -54,19 +60,16 @@ fn figures(rows: &Rows) -> Figures {
         fields: 0,
         bytes: 0,
     };
-    for row in rows.as_slice() {
-        found.fields = found.fields.saturating_add(row.len());
-        found.bytes = found.bytes.saturating_add(row_bytes(row));
-    }
-    found
-}
-
-fn row_bytes(row: &Row) -> usize {
-    let mut count: usize = 0;
-    for value in row.as_slice() {
-        if let Value::S(text) = value {
-            count = count.saturating_add(text.len());
+    for place in 0..rows.len() {
+        for column in 0..COLUMNS.len() {
+            let Some(cell) = rows.get(place, column) else {
+                break;
+            };
+            found.fields = found.fields.saturating_add(1);
+            if let Cell::S(text) = cell {
+                found.bytes = found.bytes.saturating_add(text.len());
+            }
         }
     }
-    count
+    found
 }

@@ -8,3 +8,4 @@ pub mod Lines
 pub mod OneEnd
 pub mod Requesting
 pub mod Runs
+mod RowKeys

@@ -1,5 +1,5 @@
 -- The rows of the form of a definitions file that is built: a key of type UInt64, and a String with the default ''.
-use Rattle.std.specs.Prelude.{ℕ, List, [], ◌∷◌, ◌==◌, Bool, false, find}
+use Rattle.std.specs.Prelude.{ℕ, List, [], ◌∷◌, ◌==◌, Bool, false, find, Option, Some}
 use Rattle.std.specs.Option.{option_map_or}
 use Rattle.dict_schema.specs.declared.definition.Role.{Role}
 use Rattle.dict_schema.specs.declared.definition.Role.TheVariants.{Key, Attribute}
@@ -45,3 +45,13 @@ text_behind_key _ = []
 -- the text of the first row with the key, or the default
 abbrev pub text_at : Table → ℕ → List ℕ
 text_at rows key = option_map_or text_behind_key (find (has_key key) rows) []
+
+-- whether the value at a place is the key
+abbrev pub is_key : ℕ → Option Value → Bool
+is_key key (Some (U n)) = n == key
+is_key key _ = false
+
+-- the text of the value at a place
+abbrev pub text_of_cell : Option Value → List ℕ
+text_of_cell (Some (S text)) = text
+text_of_cell _ = []

@@ -14,10 +14,9 @@ ghost use Rattle.dictd.specs.Judged.{IsTableJudged, ReadsChild, PublishesAs, Fin
 use crate::ending::LoadEnd;
 use child_io::{Gathered, PieceEnd, Pieces, Spawner, run_pieces};
 use dict_schema::{Role, Shape, ShapeColumn, SourceOf};
-use dict_value::{
-    AttrType, Bytes, Cause, ColType, Exit, Format, ListOf, NoMemory, Rows, default_of,
-};
+use dict_value::{AttrType, Bytes, Cause, ColType, Exit, Format, ListOf, NoMemory, default_of};
 use load_core::{DictCore, DictEffect, DictEvent, Ending, TableFault, accept};
+use packed_rows::Rows;
 use rows_typed::decode;
 use std::alloc::Global;
 use std::marker::{Brand, PhantomData};

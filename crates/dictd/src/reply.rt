@@ -1,12 +1,14 @@
 // Replies, composed in a buffer that is used again for each of them.
-ghost use Rattle.std.specs.Prelude.{◌≡◌, ◌++◌, ◌∷◌, [], OnOk, find, codes};
-ghost use Rattle.std.specs.Option.{option_copied};
+ghost use Rattle.std.specs.Prelude.{◌≡◌, ◌++◌, ◌∷◌, [], None, OnOk, find, codes, slice_get};
+ghost use Rattle.std.specs.Option.{option_map, option_map_or};
+ghost use Rattle.packed_rows.specs.Cells.{meaning};
 ghost use Rattle.dictd.specs.Requests.{version_name, load_reply, text_of_attribute};
-ghost use Rattle.dictd.specs.ThinRows.{has_key, text_at, text_behind_key};
+ghost use Rattle.dictd.specs.ThinRows.{has_key, is_key, text_at, text_of_cell};
 
 use crate::ending::LoadEnd;
-use dict_value::{Bytes, NoMemory, Row, Value};
+use dict_value::{Bytes, NoMemory};
 use itoa::Buffer;
+use packed_rows::{Cell, Rows};
 use row_text::write_text;
 
 /// The reply that stands in place of one that found no memory.
@@ -15,39 +17,44 @@ pub const NO_MEMORY_REPLY: &[u8] = b"ERR\t99\n";
 /// The reply to an input that is too long.
 pub const TOO_LONG_REPLY: &[u8] = b"ERR\t13\n";
 
-/// Whether a row has the key.
-fn has_key(row: &Row, key: u64) -> bool
-    ensures { result ≡ has_key key row.now }
+/// Whether a row's first value is the key.
+fn is_key(cell: &Option<Cell<'_>>, key: u64) -> bool
+    ensures { result ≡ is_key key (option_map meaning cell.now) }
 {
-    match row.as_slice() {
-        [Value::U(n), ..] => *n == key,
+    match *cell {
+        Some(Cell::U(n)) => n == key,
         _ => false,
     }
 }
 
-/// The first row with the key.
-fn find_row(rows: &[Row], key: u64) -> Option<&Row>
-    ensures { option_copied result ≡ find (has_key key) rows.now }
+/// Where the first row with the key stands.
+fn find_row(rows: &Rows, key: u64) -> Option<usize>
+    ensures { option_map_or (λ place. slice_get rows.now place) result None ≡ find (has_key key) rows.now }
 {
-    rows.iter().find(|row| has_key(row, key))
+    for place in 0..rows.len() {
+        if is_key(&rows.get(place, 0), key) {
+            return Some(place);
+        }
+    }
+    None
 }
 
-/// The text behind a row's key.
-fn text_behind_key(row: &Row) -> &[u8]
-    ensures { result.now ≡ text_behind_key row.now }
+/// The text of a cell, where it has one.
+fn text_of_cell<'a>(cell: &Option<Cell<'a>>) -> &'a [u8]
+    ensures { result.now ≡ text_of_cell (option_map meaning cell.now) }
 {
-    match row.as_slice() {
-        [_, Value::S(text), ..] => text.as_slice(),
+    match *cell {
+        Some(Cell::S(text)) => text,
         _ => b"",
     }
 }
 
 /// The text of the first row with the key, or the default.
-pub fn first_text(rows: &[Row], key: u64) -> &[u8]
+pub fn first_text(rows: &Rows, key: u64) -> &[u8]
     ensures { result.now ≡ text_at rows.now key }
 {
     match find_row(rows, key) {
-        Some(row) => text_behind_key(row),
+        Some(place) => text_of_cell(&rows.get(place, 1)),
         None => b"",
     }
 }
@@ -62,7 +69,7 @@ fn push_version(out: &mut Bytes, number: u64) -> Result<(), NoMemory>
 }
 
 /// The value of a key in the rows of a version.
-pub fn value_reply(out: &mut Bytes, number: u64, rows: &[Row], key: u64) -> Result<(), NoMemory>
+pub fn value_reply(out: &mut Bytes, number: u64, rows: &Rows, key: u64) -> Result<(), NoMemory>
     ensures { OnOk result (out.new ≡ codes "OK" ++ 9 ∷ (version_name number ++ 9 ∷ (text_of_attribute rows.now key ++ 10 ∷ []))) }
 {
     out.clear();

@@ -76,7 +76,7 @@ fn answer_key<S: Spawner, W: ChildWords>(
         return Err(NoMemory);
     };
     match seen.version() {
-        Some(rows) => value_reply(reply, seen.number(), rows.as_slice(), key),
+        Some(rows) => value_reply(reply, seen.number(), rows, key),
         None => plain_reply(reply, b"ERR\t5\n"),
     }
 }

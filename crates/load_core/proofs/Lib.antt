@@ -9,3 +9,4 @@ pub mod Places
 pub mod Rows
 pub mod Runs
 pub mod Worlds
+mod WorldFits

@@ -1,7 +1,8 @@
 -- The rows of the dictionary that `World::run` loads: a key of type UInt64 and a String with the default ''.
 use Rattle.std.specs.Prelude.{ℕ, List, [], ◌∷◌, false, Option, Some, None, Ok}
 use Rattle.dict_value.specs.declared.fault.Cause.{Cause}
-use Rattle.dict_value.specs.declared.value.ColType.TheVariants.{UInt64}
+use Rattle.dict_value.specs.declared.value.AttrType.{AttrType}
+use Rattle.dict_value.specs.declared.value.ColType.TheVariants.{Str, UInt64}
 use Rattle.dict_value.specs.declared.value.Field.TheVariants as field
 use Rattle.dict_value.specs.declared.value.Format.TheVariants.{Tab}
 use Rattle.dict_value.specs.declared.value.Value.{Value}
@@ -20,6 +21,9 @@ text_column (field.Text text) = Ok (S text)
 
 abbrev pub world_columns : List Reader
 world_columns = key_column ∷ text_column ∷ []
+
+abbrev pub world_types : List AttrType
+world_types = record { base = UInt64; nullable = false } ∷ record { base = Str; nullable = false } ∷ []
 
 -- what the judge says of a text, whatever the dictionary's number
 abbrev pub row_verdicts : ℕ → List ℕ → Option Cause → Type 0

@@ -1,9 +1,14 @@
 // The table of a flat layout, from what a child's output decodes to.
-ghost use Rattle.std.specs.Prelude.{◌≤◌, MatchOption};
+ghost use Rattle.std.specs.Prelude.{◌≡◌, ◌≤◌, Some, MatchOption};
 ghost use Rattle.std.specs.List.{AllByRecursion};
-ghost use Rattle.load_core.specs.FlatRows.{HasKey, HasSmallKey, IsFirstLarge, Makes};
+ghost use Rattle.std.specs.Option.{option_map};
+ghost use Rattle.dict_value.specs.declared.value.Value.TheVariants.{U};
+ghost use Rattle.packed_rows.specs.Cells.{meaning};
+ghost use Rattle.load_core.specs.FlatRows.{HasSmallKey, IsFirstLarge, Makes};
+ghost use Rattle.load_core.specs.steps.FlatSteps.{IsSmallCell};
 
-use dict_value::{Cause, Row, Rows, Value};
+use dict_value::Cause;
+use packed_rows::{Cell, Rows};
 use row_text::DecodeFault;
 
 /// The least number that is no key of a flat layout.
@@ -16,22 +21,23 @@ pub enum TableFault {
     NoMemory,
 }
 
-/// The row's key, where a flat layout doesn't take it.
-fn large_key(row: &[Value]) -> Option<u64>
-    ensures { MatchOption result (HasSmallKey row.now) (λ key. HasKey row.now key × (KEY_BOUND ≤ key)) }
+/// A row's first value as a key that a flat layout doesn't take.
+fn large_key(cell: &Option<Cell<'_>>) -> Option<u64>
+    ensures { MatchOption result (IsSmallCell (option_map meaning cell.now))
+        (λ key. (option_map meaning cell.now ≡ Some (U key)) × (KEY_BOUND ≤ key)) }
 {
-    match row {
-        [Value::U(key), ..] if *key >= KEY_BOUND => Some(*key),
+    match *cell {
+        Some(Cell::U(key)) if key >= KEY_BOUND => Some(key),
         _ => None,
     }
 }
 
 /// The first key that a flat layout doesn't take.
-fn first_large_key(rows: &[Row]) -> Option<u64>
+fn first_large_key(rows: &Rows) -> Option<u64>
     ensures { MatchOption result (AllByRecursion HasSmallKey rows.now) (IsFirstLarge rows.now) }
 {
-    for row in rows {
-        if let Some(key) = large_key(row.as_slice()) {
+    for place in 0..rows.len() {
+        if let Some(key) = large_key(&rows.get(place, 0)) {
             return Some(key);
         }
     }
@@ -48,7 +54,7 @@ pub fn accept(decoded: Result<Rows, DecodeFault>) -> Result<Rows, TableFault>
         Err(DecodeFault::TooMany) => return Err(TableFault::Refused(Cause::Rows)),
         Err(DecodeFault::NoMemory) => return Err(TableFault::NoMemory),
     };
-    match first_large_key(rows.as_slice()) {
+    match first_large_key(&rows) {
         Some(key) => Err(TableFault::Refused(Cause::Key(key))),
         None => Ok(rows),
     }

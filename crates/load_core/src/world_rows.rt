@@ -1,5 +1,6 @@
 // The rows of the dictionary that `World::run` loads: a key of type UInt64 and a String.
-use dict_value::{BadValue, Bytes, ColType, Field, Value, read_text};
+use dict_value::{AttrType, BadValue, Bytes, ColType, Field, Value, read_text};
+use packed_rows::Cell;
 use row_text::Columns;
 use std::alloc::Global;
 
@@ -11,8 +12,27 @@ impl Columns for WorldColumns {
 
     ghost columns = { λ it. world_columns };
 
+    ghost use Rattle.load_core.specs.WorldRows.{world_types};
+
+    ghost types = { λ it. world_types };
+
     fn count(&self) -> usize {
         2
+    }
+
+    fn type_at(&self, place: usize) -> AttrType {
+        AttrType {
+            base: if place == 0 {
+                ColType::UInt64
+            } else {
+                ColType::Str
+            },
+            nullable: false,
+        }
+    }
+
+    fn read_cell<'a>(&self, _alloc: Global, place: usize, text: &'a [u8]) -> Option<Cell<'a>> {
+        if place > 0 { Some(Cell::S(text)) } else { None }
     }
 
     fn read(&self, alloc: Global, place: usize, field: Field) -> Result<Value, BadValue> {

@@ -15,3 +15,5 @@ pub mod Tabled
 pub mod OneDecoding
 pub mod CutGrowth
 pub mod EachText
+mod Fitted
+mod PlainLines

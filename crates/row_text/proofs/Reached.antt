@@ -114,7 +114,7 @@ on-ok (Ok x) P e p = p
 on-ok (Err x) P e p = cc e
 
 -- the marks of a line up to a place behind the fields so far
-line-more : (line : List ℕ) (at size : ℕ) (fields : List Field) (ms ns : List Mark) → HasFieldsBefore line at fields ms → Spells (take size (suffix line at)) ns → Spells (take (at + size) line) (ms ++ ns)
+pub line-more : (line : List ℕ) (at size : ℕ) (fields : List Field) (ms ns : List Mark) → HasFieldsBefore line at fields ms → Spells (take size (suffix line at)) ns → Spells (take (at + size) line) (ms ++ ns)
 line-more line at size fields ms ns p q =
     rw (take-add at size line) (spells-append _ _ ms ns p.spells (subst (λ (t : List ℕ). Spells (take size t) ns) (take_rest line at) q))
 

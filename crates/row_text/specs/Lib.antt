@@ -5,4 +5,5 @@ pub mod Cutting
 pub mod Held
 pub mod Tables
 pub mod Decoding
+pub mod Fitting
 pub mod steps

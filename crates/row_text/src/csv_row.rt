@@ -13,8 +13,8 @@ ghost use Rattle.row_text.specs.steps.CsvSteps.{IsPlainText, IsWantOfMemory, Rec
 ghost use Rattle.dict_value.specs.Memory.{UnlessNoMemory};
 ghost use Rattle.row_text.specs.declared.cutter.CutRule.TheVariants as rule;
 
-use dict_value::letters::{CARRIAGE_RETURN, COMMA, DOUBLE_QUOTE, LINE_FEED};
 use csv::{ByteRecord, Error, ErrorKind, ReaderBuilder, WriterBuilder};
+use dict_value::letters::{CARRIAGE_RETURN, COMMA, DOUBLE_QUOTE, LINE_FEED};
 use dict_value::{Bytes, Field, Fields, LineFault, ListOf, NoMemory};
 use std::alloc::Global;
 

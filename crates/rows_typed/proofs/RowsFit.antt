@@ -76,7 +76,7 @@ null-fits role.Attribute t true default v n d e = let same : Null ≡ v = cc in 
 null-fits role.Attribute t false default v n d e =
     let same : default ≡ v = cc in subst (FitsRole role.Attribute t) same (column-fits role.Attribute t default d)
 
-value-fits : (column : ShapeColumn) (seen : Field) (v : Value) → FitsColumn column.ty column.default → value_at column seen ≡ Ok v → FitsRole column.role column.ty v
+pub value-fits : (column : ShapeColumn) (seen : Field) (v : Value) → FitsColumn column.ty column.default → value_at column seen ≡ Ok v → FitsRole column.role column.ty v
 value-fits column field.Null v d e = null-fits column.role column.ty column.ty.nullable column.default v refl d e
 value-fits column (field.Text text) v d e = typed-fits column.role column.ty v (read-typed column.ty.base text v e)
 

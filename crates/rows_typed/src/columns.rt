@@ -1,13 +1,19 @@
 // What the columns of a shape make of fields.
-ghost use Rattle.std.specs.Prelude.{◌≡◌, length, reverse, take_while};
+ghost use Rattle.std.specs.Prelude.{◌≡◌, length, reverse, take_while, IfSome, Ok};
+ghost use Rattle.dict_value.specs.Values.{text_reading};
+ghost use Rattle.packed_rows.specs.Cells.{meaning};
+ghost use Rattle.rows_typed.specs.Fits.{IsUnsigned, column_type, is_end_role};
 ghost use Rattle.row_text.specs.Decoding.{Reads};
 ghost use Rattle.dict_value.specs.Letters.{is_blank_byte};
 ghost use Rattle.rows_typed.specs.Shapes.{is_null_text, column_by, value_at, without_blanks};
 
 use dict_schema::{Role, ShapeColumn};
-use dict_value::{AttrType, BadValue, Bytes, ColType, Field, Format, Value, copy_value, read_text};
-use row_text::Columns;
 use dict_value::letters::{BACKSLASH, CAPITAL_N, TAB};
+use dict_value::{
+    AttrType, BadValue, Bytes, ColType, Field, Format, Value, copy_value, read_digits, read_text,
+};
+use packed_rows::Cell;
+use row_text::Columns;
 use std::alloc::Global;
 
 const SPACE: u8 = b' ';
@@ -24,12 +30,111 @@ impl<'a> Columns for ShapeColumns<'a> {
 
     ghost columns = { λ s. columns_of s.format s.shape.now };
 
+    ghost use Rattle.rows_typed.specs.Fits.{column_types};
+
+    ghost types = { λ s. column_types s.shape.now };
+
     fn count(&self) -> usize {
         self.shape.len()
     }
 
+    fn type_at(&self, place: usize) -> AttrType {
+        column_type(&self.shape[place])
+    }
+
+    fn read_cell<'t>(&self, alloc: Global, place: usize, text: &'t [u8]) -> Option<Cell<'t>> {
+        read_cell(alloc, self.format, &self.shape[place], text)
+    }
+
     fn read(&self, alloc: Global, place: usize, field: Field) -> Result<Value, BadValue> {
         read_field(alloc, self.format, &self.shape[place], field)
+    }
+}
+
+/// The type of a column's values: an end of a range may be open, and is Null there.
+fn column_type(column: &ShapeColumn) -> AttrType
+    ensures { result ≡ column_type column.now }
+{
+    AttrType {
+        base: column.ty.base,
+        nullable: is_end(column.role) || column.ty.nullable,
+    }
+}
+
+fn is_end(role: Role) -> bool
+    ensures { result ≡ is_end_role role }
+{
+    matches!(role, Role::Start | Role::End)
+}
+
+/// What a column makes of a text of TabSeparated, where that is a value; None leaves a text to `read_field`.
+#[inline]
+fn read_cell<'a>(
+    alloc: Global,
+    format: Format,
+    column: &ShapeColumn,
+    text: &'a [u8],
+) -> Option<Cell<'a>>
+    ensures { IfSome result (λ cell. column_by format column.now (Field.Text text.now) ≡ Ok (meaning cell)) }
+{
+    match format {
+        Format::Tab => text_cell(alloc, column.ty.base, text),
+        Format::Csv => None,
+    }
+}
+
+/// The value of a text at a type, where it lies; None where it has none.
+#[inline]
+fn text_cell<'a>(alloc: Global, base: ColType, text: &'a [u8]) -> Option<Cell<'a>>
+    ensures { IfSome result (λ cell. text_reading base text.now ≡ Ok (meaning cell)) }
+{
+    match base {
+        ColType::Str => Some(Cell::S(text)),
+        ColType::UInt8 => number_cell(base, text, u64::from(u8::MAX)),
+        ColType::UInt16 => number_cell(base, text, u64::from(u16::MAX)),
+        ColType::UInt32 => number_cell(base, text, u64::from(u32::MAX)),
+        ColType::UInt64 => number_cell(base, text, u64::MAX),
+        _ => other_cell(alloc, base, text),
+    }
+}
+
+/// The value of digits at an unsigned type whose greatest number is `most`.
+#[inline]
+fn number_cell<'a>(base: ColType, text: &[u8], most: u64) -> Option<Cell<'a>>
+    requires { IsUnsigned base most }
+    ensures { IfSome result (λ cell. text_reading base text.now ≡ Ok (meaning cell)) }
+{
+    match read_digits(text) {
+        Some(number) if number <= most => Some(Cell::U(number)),
+        _ => None,
+    }
+}
+
+/// The value of a text at a type that isn't String.
+fn other_cell<'a>(alloc: Global, base: ColType, text: &[u8]) -> Option<Cell<'a>>
+    ensures { IfSome result (λ cell. text_reading base text.now ≡ Ok (meaning cell)) }
+{
+    match read_text(alloc, base, text) {
+        Ok(value) => textless_cell(&value),
+        Err(_) => None,
+    }
+}
+
+/// The cell that a value is which has no text.
+fn textless_cell<'a>(value: &Value) -> Option<Cell<'a>>
+    ensures { IfSome result (λ cell. meaning cell ≡ value.now) }
+{
+    match value {
+        Value::Null => Some(Cell::Null),
+        Value::U(n) => Some(Cell::U(*n)),
+        Value::I(z) => Some(Cell::I(*z)),
+        Value::S(_) => None,
+        Value::Day(n) => Some(Cell::Day(*n)),
+        Value::Second(n) => Some(Cell::Second(*n)),
+        Value::Id(n) => Some(Cell::Id(*n)),
+        Value::V4(n) => Some(Cell::V4(*n)),
+        Value::V6(n) => Some(Cell::V6(*n)),
+        Value::Dec(z) => Some(Cell::Dec(*z)),
     }
 }
 

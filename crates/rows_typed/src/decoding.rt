@@ -1,11 +1,13 @@
 // Whole texts as typed rows.
 ghost use Rattle.std.specs.Prelude.{◌≤◌, Err, length};
 ghost use Rattle.dict_value.specs.Memory.{UnlessNoMemory};
+ghost use Rattle.rows_typed.specs.Fits.{HasFittingDefaults};
 ghost use Rattle.rows_typed.specs.Shapes.{Decode};
 
 use crate::columns::ShapeColumns;
 use dict_schema::Shape;
-use dict_value::{Format, Rows};
+use dict_value::Format;
+use packed_rows::Rows;
 use row_text::{DecodeFault, decode_rows};
 use std::alloc::Global;
 
@@ -19,6 +21,8 @@ pub fn decode(
 ) -> Result<Rows, DecodeFault>
     requires bytes { length text.now ≤ u32.MAX }
     requires columns { length shape.now ≤ u32.MAX }
+    // Each column's default is a value of its type.
+    requires defaults { HasFittingDefaults shape.now }
     ensures { UnlessNoMemory (Err DecodeFault.NoMemory) result (Decode shape.now format text.now result) }
 {
     let columns = ShapeColumns {

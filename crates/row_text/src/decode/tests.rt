@@ -1,5 +1,8 @@
 use crate::{Columns, DecodeFault, decode_rows};
-use dict_value::{BadRow, BadValue, Bytes, Field, Format, MOST_ROWS, Value, Why};
+use dict_value::{
+    AttrType, BadRow, BadValue, Bytes, ColType, Field, Format, MOST_ROWS, Value, Why,
+};
+use packed_rows::Cell;
 use std::alloc::Global;
 use std::test::Fail;
 
@@ -9,11 +12,25 @@ struct NullColumn;
 impl Columns for NullColumn {
     ghost use Rattle.std.specs.Prelude.{◌∷◌, [], Ok};
     ghost use Rattle.dict_value.specs.declared.value.Value.TheVariants.{Null};
+    ghost use Rattle.dict_value.specs.declared.value.ColType.TheVariants as type;
 
     ghost columns = { λ it. (λ field. Ok Null) ∷ [] };
 
+    ghost types = { λ it. record { base = type.UInt8; nullable = true } ∷ [] };
+
     fn count(&self) -> usize {
         1
+    }
+
+    fn type_at(&self, _place: usize) -> AttrType {
+        AttrType {
+            base: ColType::UInt8,
+            nullable: true,
+        }
+    }
+
+    fn read_cell<'a>(&self, _alloc: Global, _place: usize, _text: &'a [u8]) -> Option<Cell<'a>> {
+        Some(Cell::Null)
     }
 
     fn read(&self, _alloc: Global, _place: usize, _field: Field) -> Result<Value, BadValue> {

@@ -1,6 +1,13 @@
+ghost use Rattle.std.specs.Prelude.{IfOk};
+ghost use Rattle.dict_value.specs.Values.{FitsColumn};
+ghost use Rattle.rows_typed.specs.Fits.{HasFittingDefaults};
+
 use crate::{DecodeFault, decode, decoded_rows_fit};
 use dict_schema::{Role, Shape, ShapeColumn};
-use dict_value::{AttrType, Bytes, ColType, Format, ListOf, MOST_ROWS, NoMemory, Row, Rows, Value};
+use dict_value::{
+    AttrType, Bytes, ColType, Format, ListOf, MOST_ROWS, NoMemory, Value, default_of,
+};
+use packed_rows::{Cell, Rows};
 use std::alloc::Global;
 use std::test::Fail;
 
@@ -19,17 +26,31 @@ const MAYBE_TEXT: Kind = (Role::Attribute, ColType::Str, true);
 
 const MAYBE_BYTE: Kind = (Role::Attribute, ColType::UInt8, true);
 
-/// The columns of these kinds, each with the text `q` as its default.
-fn shape_of(alloc: Global, kinds: &[Kind]) -> Result<Shape, NoMemory> {
+/// The text `q`, or the default of another type.
+fn default_for(alloc: Global, ty: &AttrType) -> Result<Value, NoMemory>
+    ensures { IfOk result (FitsColumn ty.now) }
+{
+    match ty.base {
+        ColType::Str => Ok(Value::S(Bytes::copy_of(alloc, b"q")?)),
+        _ => Ok(default_of(alloc, ty)),
+    }
+}
+
+/// The columns of these kinds, each String with the text `q` as its default.
+fn shape_of(alloc: Global, kinds: &[Kind]) -> Result<Shape, NoMemory>
+    ensures { IfOk result HasFittingDefaults }
+{
     let mut shape = ListOf::new(alloc);
     for (role, base, nullable) in kinds {
+        let ty = AttrType {
+            base: *base,
+            nullable: *nullable,
+        };
+        let default = default_for(alloc, &ty)?;
         shape.push(ShapeColumn {
-            ty: AttrType {
-                base: *base,
-                nullable: *nullable,
-            },
+            ty,
             role: *role,
-            default: Value::S(Bytes::copy_of(alloc, b"q")?),
+            default,
         })?;
     }
     Ok(shape)
@@ -54,12 +75,22 @@ fn decoded(
 /// The same as it is shown.
 fn shown(alloc: Global, kinds: &[Kind], format: Format, text: &[u8]) -> Result<Bytes, NoMemory> {
     let mut out = Bytes::new(alloc);
-    show(alloc, decoded(alloc, kinds, format, text), &mut out)?;
+    show(
+        alloc,
+        decoded(alloc, kinds, format, text),
+        kinds.len(),
+        &mut out,
+    )?;
     Ok(out)
 }
 
 /// A bar before each value, a question mark for Null, and a semicolon behind each row; or the fault.
-fn show(alloc: Global, answer: Result<Rows, DecodeFault>, out: &mut Bytes) -> Result<(), NoMemory> {
+fn show(
+    alloc: Global,
+    answer: Result<Rows, DecodeFault>,
+    columns: usize,
+    out: &mut Bytes,
+) -> Result<(), NoMemory> {
     let rows = match answer {
         Ok(rows) => rows,
         Err(DecodeFault::Bad(bad)) => {
@@ -68,20 +99,23 @@ fn show(alloc: Global, answer: Result<Rows, DecodeFault>, out: &mut Bytes) -> Re
         }
         Err(DecodeFault::TooMany | DecodeFault::NoMemory) => return Err(NoMemory),
     };
-    for row in rows.as_slice() {
-        for value in row.as_slice() {
+    for place in 0..rows.len() {
+        for column in 0..columns {
+            let Some(cell) = rows.get(place, column) else {
+                return Err(NoMemory);
+            };
             out.push(b'|')?;
-            show_value(alloc, value, out)?;
+            show_cell(alloc, cell, out)?;
         }
         out.push(b';')?;
     }
     Ok(())
 }
 
-fn show_value(alloc: Global, value: &Value, out: &mut Bytes) -> Result<(), NoMemory> {
-    match value {
-        Value::Null => out.push(b'?'),
-        Value::S(text) => out.extend(text.as_slice()),
+fn show_cell(alloc: Global, cell: Cell<'_>, out: &mut Bytes) -> Result<(), NoMemory> {
+    match cell {
+        Cell::Null => out.push(b'?'),
+        Cell::S(text) => out.extend(text),
         other => {
             let shown = format!(in alloc; "{other:?}").map_err(|_| NoMemory)?;
             out.extend(shown.as_bytes())
@@ -93,7 +127,7 @@ fn show_value(alloc: Global, value: &Value, out: &mut Bytes) -> Result<(), NoMem
 fn tab_texts(rt: HostRuntime) -> Result<(), Fail> {
     let pair: &[Kind] = &[ID, TEXT];
     let triple: &[Kind] = &[ID, TEXT, MAYBE_BYTE];
-    let cases: [(&[Kind], &[u8], &[u8]); 14] = [
+    let cases: [(&[Kind], &[u8], &[u8]); 17] = [
         (triple, b"1\ta\n", b"row 1 0 FieldCount(2)"),
         (triple, b"1\ta\t300\n", b"row 1 3 Value(OutOfRange)"),
         (triple, b"1\ta\t1\nx\ta\t1\n", b"row 2 1 Value(NotANumber)"),
@@ -116,6 +150,13 @@ fn tab_texts(rt: HostRuntime) -> Result<(), Fail> {
             b"|U(1)|?|U(2);|U(1)|U(3)|?;",
         ),
         (&[], b"1\n", b"row 1 0 FieldCount(1)"),
+        (
+            pair,
+            b"1\ta\n2\t\\b\\f\\r\\n\\t\\0\\'\\\\\\a\\v\\x7e\n3\t\n",
+            b"|U(1)|a;|U(2)|\x08\x0c\r\n\t\0'\\\x07\x0b~;|U(3)|;",
+        ),
+        (pair, b"1\ta\n2\tb\tc\n", b"row 2 0 FieldCount(3)"),
+        (pair, b"1\ta\n2\tb\\x4\n", b"row 2 0 Escape(3)"),
     ];
     for (kinds, text, wanted) in cases {
         let out = shown(rt.alloc(), kinds, Format::Tab, text)?;
@@ -201,14 +242,29 @@ const TYPES: [(ColType, &[u8], &[u8]); 15] = [
 
 const ROLES: [Role; 4] = [Role::Key, Role::Start, Role::End, Role::Attribute];
 
-/// What NULL is at a column, whose default is the text `q`.
+/// What NULL is at a column.
 fn null_shown(kind: Kind, format: Format) -> &'static [u8] {
     match kind {
         (_, ColType::Str, false) if format == Format::Csv => b"|\\N;",
         (Role::Start | Role::End, _, _) => b"|?;",
         (_, _, true) => b"|?;",
         (Role::Key, _, false) => b"row 1 1 Value(NullNotAllowed)",
-        (Role::Attribute, _, false) => b"|q;",
+        (Role::Attribute, base, false) => default_shown(base),
+    }
+}
+
+/// The default of a type, or the text `q`.
+fn default_shown(base: ColType) -> &'static [u8] {
+    match base {
+        ColType::UInt8 | ColType::UInt16 | ColType::UInt32 | ColType::UInt64 => b"|U(0);",
+        ColType::Int8 | ColType::Int16 | ColType::Int32 | ColType::Int64 => b"|I(0);",
+        ColType::Str => b"|q;",
+        ColType::Date => b"|Day(0);",
+        ColType::DateTime => b"|Second(0);",
+        ColType::Uuid => b"|Id(0);",
+        ColType::Ipv4 => b"|V4(0);",
+        ColType::Ipv6 => b"|V6(0);",
+        ColType::Decimal(_, _) => b"|Dec(0);",
     }
 }
 
@@ -242,14 +298,10 @@ fn lines(alloc: Global, line: &[u8], count: usize) -> Result<Bytes, NoMemory> {
     Ok(text)
 }
 
-/// The row has the greatest number and ten letters.
-fn is_pair(row: &Row) -> bool {
-    match row.as_slice() {
-        [Value::U(id), Value::S(text)] => {
-            *id == u64::MAX && text.as_slice() == b"abcdefghij".as_slice()
-        }
-        _ => false,
-    }
+/// The row at a place has the greatest number and ten letters.
+fn is_pair(rows: &Rows, place: usize) -> bool {
+    matches!(rows.get(place, 0), Some(Cell::U(u64::MAX)))
+        && matches!(rows.get(place, 1), Some(Cell::S(text)) if text == b"abcdefghij".as_slice())
 }
 
 #[test]
@@ -264,7 +316,9 @@ fn a_million_rows(rt: HostRuntime) -> Result<(), Fail> {
             return Err(Fail::from("there is memory for a million rows"));
         };
         assert_eq!(rt; rows.len(), 1_000_000);
-        assert!(rt; rows.as_slice().iter().all(|row| is_pair(row)));
+        for place in 0..rows.len() {
+            assert!(rt; is_pair(&rows, place));
+        }
     }
     Ok(())
 }

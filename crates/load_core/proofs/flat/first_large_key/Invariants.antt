@@ -3,5 +3,5 @@ use Rattle.std.specs.List.{AllByRecursion}
 use Rattle.load_core.specs.FlatRows.{HasSmallKey}
 use Rattle.load_core.proofs.flat.first_large_key.Given as goal
 
-abbrev pub invariant-loop-row : goal.invariant-loop-row
-invariant-loop-row l = AllByRecursion HasSmallKey (take l.row-index l.rows)
+abbrev pub invariant-loop-place : goal.invariant-loop-place
+invariant-loop-place l = AllByRecursion HasSmallKey (take l.place l.rows)
