@@ -1,7 +1,8 @@
 // The arguments of a function.
-ghost use Rattle.std.specs.Prelude.{◌≡◌, ◌++◌, ◌<◌, ◌≤◌, length, List, IfOk, IsTrue, OnOk, Err};
+ghost use Rattle.std.specs.Prelude.{◌≡◌, ◌++◌, ◌<◌, ◌≤◌, length, List, All, IfOk, IsTrue, OnOk, Err};
 ghost use Rattle.dict_value.specs.Memory.{UnlessNoMemory};
 ghost use Rattle.dict_schema.specs.declared.definition.Arg.{Arg};
+ghost use Rattle.dict_schema.specs.Sound.{IsSoundType};
 ghost use Rattle.ddl_tokens.specs.declared.fault.ReadFault.TheVariants as fault;
 ghost use Rattle.ddl_tokens.specs.Tokens.{Token};
 ghost use Rattle.ddl_tokens.specs.Reading.{Gives};
@@ -105,6 +106,8 @@ pub fn read_arguments(alloc: Global, r: &mut Reader<'_>) -> Result<ListOf<Arg>, 
     ensures only { (own rest : List Token) (arguments : Verdict (List Arg)) → r.old ≡ own ++ rest
         → AreArguments arguments own → VerdictStops Anyhow arguments (first rest)
         → UnlessNoMemory (Err fault.NoMemory) result (result ≡ answer arguments) }
+    // The types that are read can be.
+    ensures sound { IfOk result (λ arguments. All (λ argument. IsSoundType argument.ty) arguments) }
     // A fault is the first.
     ensures first { IfSyntax result (λ e. IsLeastOrFalls AreArguments Anyhow r.old e) }
     ensures shorter { OnOk result (length r.new < length r.old) }

@@ -1,7 +1,8 @@
 // Columns.
-ghost use Rattle.std.specs.Prelude.{◌≡◌, ◌++◌, ◌<◌, ◌≤◌, length, List, IfOk, IsTrue, OnOk, Err};
+ghost use Rattle.std.specs.Prelude.{◌≡◌, ◌++◌, ◌<◌, ◌≤◌, length, List, All, IfOk, IsTrue, OnOk, Err};
 ghost use Rattle.dict_value.specs.Memory.{UnlessNoMemory};
 ghost use Rattle.dict_schema.specs.declared.definition.Column.{Column};
+ghost use Rattle.dict_schema.specs.Sound.{IsSoundType};
 ghost use Rattle.ddl_tokens.specs.declared.fault.ReadFault.TheVariants as fault;
 ghost use Rattle.ddl_tokens.specs.Tokens.{Token};
 ghost use Rattle.ddl_tokens.specs.Reading.{Gives};
@@ -103,6 +104,8 @@ pub fn read_columns(alloc: Global, r: &mut Reader<'_>) -> Result<ListOf<Column>,
     ensures only { (own rest : List Token) (columns : Verdict (List Column)) → r.old ≡ own ++ rest
         → AreColumns columns own → VerdictStops Anyhow columns (first rest)
         → UnlessNoMemory (Err fault.NoMemory) result (result ≡ answer columns) }
+    // The types that are read can be.
+    ensures sound { IfOk result (λ columns. All (λ column. IsSoundType column.ty) columns) }
     // A fault is the first.
     ensures first { IfSyntax result (λ e. IsLeastOrFalls AreColumns Anyhow r.old e) }
     ensures shorter { OnOk result (length r.new < length r.old) }

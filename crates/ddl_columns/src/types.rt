@@ -1,6 +1,7 @@
 // Types of columns and arguments.
 ghost use Rattle.std.specs.Prelude.{◌≡◌, ◌≢◌, ◌++◌, ◌<◌, ◌≤◌, length, List, Err, IfOk, OnOk};
 ghost use Rattle.dict_value.specs.declared.value.AttrType.{AttrType};
+ghost use Rattle.dict_schema.specs.Sound.{IsSoundType};
 ghost use Rattle.ddl_tokens.specs.Verdicts.{Verdict, IsLeastOrFalls, VerdictStops, answer, stands};
 ghost use Rattle.ddl_tokens.specs.Laws.{Begins, IfSyntax, first};
 ghost use Rattle.ddl_tokens.specs.Reading.{Gives, bytes_ahead};
@@ -358,6 +359,8 @@ pub fn read_type(alloc: Global, r: &mut Reader<'_>) -> Result<AttrType, ReadFaul
     ensures only { (own rest : List Token) (ty : Verdict AttrType) → r.old ≡ own ++ rest → IsType ty own
         → VerdictStops TypeStops ty (first rest)
         → result ≡ answer ty }
+    // The type can be.
+    ensures sound { IfOk result IsSoundType }
     // A fault is the first.
     ensures first { IfSyntax result (λ e. IsLeastOrFalls IsType TypeStops r.old e) }
     ensures takes_none { result ≢ Err fault.NoMemory }
