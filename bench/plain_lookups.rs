@@ -1,5 +1,6 @@
 // The plain program that the proved one is compared with: an array for small keys, and std's HashMap for
-// keys of 64 bits and for the bytes of keys of two values. The words and the keys are those of crates/bench_lookups.
+// keys of 64 bits and for the bytes of keys of two values; a trie of one bit a level for prefixes; std's HashMap
+// from keys to parents for chains. The words and the keys are those of crates/bench_lookups.
 use std::collections::HashMap;
 use std::hash::Hash;
 use std::time::Instant;
@@ -75,10 +76,135 @@ fn found<K>(asked: &[K], find: impl Fn(&K) -> Option<u32>) -> (u64, u64) {
     (count, sum)
 }
 
+/// A trie of one bit a level: the children, and one more than the first row that ends at the node.
+#[derive(Clone, Copy, Default)]
+struct Node {
+    children: [u32; 2],
+    row: u32,
+}
+
+/// The bits of an IPv6 prefix: 2000::/3 and scattered ones.
+fn wide(number: u64) -> u128 {
+    let high = (scattered(number) >> 3) | (1 << 61);
+    (u128::from(high) << 64) | u128::from(scattered(number ^ (1 << 40)))
+}
+
+/// The first ones of 128 bits of a prefix, and its length.
+fn prefix(search: &str, number: u64) -> (u128, u32) {
+    let drawn = (scattered(number ^ (1 << 41)) % 17) as u32;
+    match search {
+        "v6" => (wide(number) >> 64 << 64, 32 + drawn),
+        _ => (u128::from(scattered(number) >> 32) << 96, 8 + drawn),
+    }
+}
+
+fn trie_of(search: &str, count: u64) -> Vec<Node> {
+    let mut nodes = vec![Node::default()];
+    for row in 0..count {
+        let (bits, len) = prefix(search, row);
+        let mut at = 0;
+        for level in 0..len {
+            let bit = (bits >> (127 - level)) as usize & 1;
+            if nodes[at].children[bit] == 0 {
+                nodes[at].children[bit] = nodes.len() as u32;
+                nodes.push(Node::default());
+            }
+            at = nodes[at].children[bit] as usize;
+        }
+        if nodes[at].row == 0 {
+            nodes[at].row = row as u32 + 1;
+        }
+    }
+    nodes
+}
+
+fn longest(nodes: &[Node], bits: u128, width: u32) -> Option<u32> {
+    let (mut at, mut best) = (0, 0);
+    for level in 0..=width {
+        if nodes[at].row != 0 {
+            best = nodes[at].row;
+        }
+        if level == width {
+            break;
+        }
+        at = nodes[at].children[(bits >> (127 - level)) as usize & 1] as usize;
+        if at == 0 {
+            break;
+        }
+    }
+    best.checked_sub(1)
+}
+
+fn chain(parents: &HashMap<u64, Option<u64>>, key: u64) -> Vec<u64> {
+    let mut chain = Vec::new();
+    let mut next = Some(key);
+    while let Some(key) = next {
+        match parents.get(&key) {
+            Some(parent) if !chain.contains(&key) => {
+                chain.push(key);
+                next = *parent;
+            }
+            _ => break,
+        }
+    }
+    chain
+}
+
+/// Times a search by address or of chains.
+fn search(kind: &str, count: u64, finds: u64, rounds: u64) {
+    let drawn: Vec<u64> = (0..finds).map(|find| scattered(find + 4_294_967_296)).collect();
+    let addresses: Vec<u128> = drawn
+        .iter()
+        .map(|drawn| match kind {
+            "v6" => wide(drawn % count) ^ u128::from(scattered(*drawn)),
+            "v4" => u128::from(drawn >> 32) << 96,
+            _ => u128::from(scattered(drawn % count / 10 * 10)),
+        })
+        .collect();
+    let (mut build, mut find) = (u128::MAX, u128::MAX);
+    for round in 0..=rounds {
+        let start = Instant::now();
+        let (mut hits, mut sum) = (0u64, 0u64);
+        let middle;
+        if kind == "chains" {
+            let parents: HashMap<u64, Option<u64>> = (0..count)
+                .map(|row| (scattered(row), (row % 10 != 9).then(|| scattered(row + 1))))
+                .collect();
+            middle = Instant::now();
+            for key in &addresses {
+                for member in chain(&parents, *key as u64) {
+                    hits += 1;
+                    sum = sum.wrapping_add(member);
+                }
+            }
+        } else {
+            let nodes = trie_of(kind, count);
+            let width = if kind == "v6" { 128 } else { 32 };
+            middle = Instant::now();
+            for address in &addresses {
+                if let Some(row) = longest(&nodes, *address, width) {
+                    hits += 1;
+                    sum += u64::from(row);
+                }
+            }
+        }
+        let end = Instant::now();
+        build = build.min((middle - start).as_micros());
+        find = find.min((end - middle).as_micros());
+        if round == 0 {
+            println!("found {hits} sum {sum}");
+        }
+    }
+    println!("{build} {find}");
+}
+
 fn main() {
     let words: Vec<String> = std::env::args().collect();
     let (layout, share) = (words[1].as_str(), words[2].as_str());
     let numbers: Vec<u64> = words[3..6].iter().map(|word| word.parse().unwrap()).collect();
+    if matches!(layout, "v4" | "v6" | "chains") {
+        return search(layout, numbers[0], numbers[1], numbers[2]);
+    }
     let keys: Vec<u64> = (0..numbers[0]).map(|row| key(layout, numbers[0], row)).collect();
     let asked = asked(layout, share, numbers[0], numbers[1]);
     let complex = layout == "complex";

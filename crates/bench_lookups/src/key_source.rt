@@ -35,7 +35,7 @@ pub fn share_of(word: &str) -> Share {
 }
 
 /// 64 bits that look random, another list for each number.
-fn scattered(number: u64) -> u64 {
+pub fn scattered(number: u64) -> u64 {
     let a = number.wrapping_add(1).wrapping_mul(0x9e37_79b9_7f4a_7c15);
     let b = (a ^ (a >> 30)).wrapping_mul(0xbf58_476d_1ce4_e5b9);
     let c = (b ^ (b >> 27)).wrapping_mul(0x94d0_49bb_1331_11eb);

@@ -1,16 +1,21 @@
-//! Times lookups by key. The words are a layout, `flat`, `hashed` or `complex`; which keys are asked, `half`, `all`
-//! or `none` of them there; how many keys and how many finds, and a number of rounds. The program
+//! Times lookups by key, by address, and of chains of parents. The words are a layout, `flat`, `hashed` or
+//! `complex`, or a search, `v4`, `v6` or `chains`; which keys of a layout are asked, `half`, `all` or `none` of them
+//! there; how many keys and how many finds, and a number of rounds. The program
 //! prints how many were found and, for more than no rounds, the shortest build and the shortest run of
 //! finds in microseconds.
 #![tactic(auto)]
 
 mod key_source;
+mod searches;
 
 use dict_value::{KeyList, MOST_ROWS, Uncounted};
 use flat_layout::Flat;
 use hashed_layout::{Complex, Hashed};
 use key_source::{Layout, Share};
+use searches::Search;
 use std::alloc::Global;
+use std::io::Print;
+use std::rt::Clock;
 use std::time::Instant;
 use std::{env, io};
 
@@ -110,10 +115,54 @@ fn number_or(word: Option<String>, other: u32) -> u32 {
     }
 }
 
+/// How large a run is.
+#[derive(Clone, Copy)]
+struct Size {
+    count: u32,
+    finds: u32,
+    rounds: u32,
+}
+
+/// Times a search by address or of chains.
+fn time_search<R: Clock + Print>(
+    rt: &R,
+    alloc: Global,
+    search: Search,
+    size: Size,
+) -> io::Result<()> {
+    let rows = searches::stored_rows(alloc, search, size.count)?;
+    let asked = searches::drawn(alloc, search, size.count, size.finds)?;
+    let mut build = u128::MAX;
+    let mut find = u128::MAX;
+    for round in 0..=size.rounds {
+        let start = Instant::now(rt)?;
+        let Some(searched) = searches::searched_of(alloc, &rows) else {
+            println!(rt; "no table")?;
+            return Ok(());
+        };
+        build = build.min(start.elapsed(rt)?.as_micros());
+        let start = Instant::now(rt)?;
+        let (count, sum) = searches::found(alloc, &searched, &asked);
+        find = find.min(start.elapsed(rt)?.as_micros());
+        if round == 0 {
+            println!(rt; "found {count} sum {sum}")?;
+        }
+    }
+    if size.rounds > 0 {
+        println!(rt; "{build} {find}")?;
+    }
+    Ok(())
+}
+
 fn main(rt: HostRuntime) -> io::Result<()> {
     let mut words = env::args(&rt)?;
     let _program = words.next();
-    let layout = match words.next() {
+    let word = words.next();
+    let search = match &word {
+        Some(word) => searches::search_of(word.as_str()),
+        None => None,
+    };
+    let layout = match word {
         Some(word) => key_source::layout_of(word.as_str()),
         None => Layout::Flat,
     };
@@ -124,6 +173,14 @@ fn main(rt: HostRuntime) -> io::Result<()> {
     let count = number_or(words.next(), 1_000);
     let find_count = number_or(words.next(), 10_000);
     let rounds = number_or(words.next(), 0);
+    if let Some(search) = search {
+        let size = Size {
+            count,
+            finds: find_count,
+            rounds,
+        };
+        return time_search(&rt, rt.alloc(), search, size);
+    }
     let stored = key_source::keys(rt.alloc(), layout, count)?;
     let keys = keys_for(rt.alloc(), layout, stored);
     let drawn = key_source::asked(rt.alloc(), layout, share, count, find_count)?;
