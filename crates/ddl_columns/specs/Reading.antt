@@ -13,7 +13,8 @@ use Rattle.dict_value.specs.Numbers.{unsigned_of}
 use Rattle.dict_schema.specs.declared.definition.Arg.{Arg}
 use Rattle.dict_schema.specs.declared.definition.Column.{Column}
 use Rattle.ddl_tokens.specs.Tokens.{Token}
-use Rattle.ddl_tokens.specs.Reading.{◌>>=◌, Read, passes, is_keyword, is_name, is_the_sign, bytes_at, keyword_at, sign_at}
+use Rattle.ddl_tokens.specs.Reading.{◌>>=◌, Read, passes, is_keyword, is_name}
+use Rattle.ddl_tokens.specs.Reading.{is_the_sign, bytes_at, keyword_at, sign_at}
 use Rattle.ddl_tokens.specs.Reading.{bytes_ahead, is_number, is_string, of_kind, place_ahead, unexpected}
 use Rattle.ddl_tokens.specs.Lists.{Kind, Step, next_once, repeat, separated_at}
 use Rattle.ddl_tokens.specs.Verdicts.{told}
@@ -23,7 +24,8 @@ use Rattle.ddl_columns.specs.declared.types.BaseName.{BaseName}
 use Rattle.ddl_columns.specs.declared.types.BaseName.TheVariants as base
 use Rattle.ddl_columns.specs.declared.types.TypeName.{TypeName}
 use Rattle.ddl_columns.specs.declared.types.TypeName.TheVariants as name
-use Rattle.ddl_columns.specs.Types.{decimal, listed, not_null, not_nullable, nullable, or_none, reads, type_named, whole_of}
+use Rattle.ddl_columns.specs.Types.{decimal, listed, not_null, not_nullable, nullable}
+use Rattle.ddl_columns.specs.Types.{or_none, reads, type_named, whole_of}
 use Rattle.ddl_columns.specs.Marks.{mark_number, mark_of, wanted_marks, word_of}
 use Rattle.ddl_columns.specs.Grammar.{argument, column}
 

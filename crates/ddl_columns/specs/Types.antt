@@ -1,5 +1,6 @@
 -- The names of types, and what a token says where a type is wanted.
-use Rattle.std.specs.Prelude.{ℕ, Bool, true, false, ◌&&◌, nat_le, if◌then◌else◌, List, codes, Option, Some, None, Result, Ok, Err}
+use Rattle.std.specs.Prelude.{ℕ, Bool, true, false, ◌&&◌, nat_le, if◌then◌else◌, List}
+use Rattle.std.specs.Prelude.{codes, Option, Some, None, Result, Ok, Err}
 use Rattle.std.specs.Prelude.{unwrap_or}
 use Rattle.dict_value.specs.declared.value.AttrType.{AttrType}
 use Rattle.dict_value.specs.declared.value.BadValue.{BadValue}

@@ -101,7 +101,8 @@ pub fn read_arguments(alloc: Global, r: &mut Reader<'_>) -> Result<ListOf<Arg>, 
     // The kind of a fault is that of the reading.
     ensures exact { Gives (λ arguments. arguments) result r.new (arguments_at r.old) }
     // What is read is in the grammar.
-    ensures found { IfOk result (λ arguments. Begins AreArguments (VerdictStops Anyhow) r.old (stands arguments) r.new) }
+    ensures found { IfOk result
+        (λ arguments. Begins AreArguments (VerdictStops Anyhow) r.old (stands arguments) r.new) }
     // What is in the grammar is read, and as nothing else.
     ensures only { (own rest : List Token) (arguments : Verdict (List Arg)) → r.old ≡ own ++ rest
         → AreArguments arguments own → VerdictStops Anyhow arguments (first rest)

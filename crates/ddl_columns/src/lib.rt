@@ -2,7 +2,8 @@
 //!
 //! It promises that what is read is what the grammar of `specs/Grammar.antt` has, that what the
 //! grammar has is read, and as nothing else, and that the fault is the one with the least place; a
-//! Decimal out of range, which is found where its bracket closes, is told at its word.
+//! Decimal out of range, which is found where its bracket closes, is told at its word. After a fault
+//! nothing is said of what the reader has left.
 #![tactic(auto)]
 
 mod arguments;
