@@ -8,7 +8,6 @@ use Rattle.std.proofs.lemmas.Option.{none-some, slice_get_read, slice_get_within
 use Rattle.dict_value.specs.declared.value.AttrType.{AttrType}
 use Rattle.dict_value.specs.declared.value.Field.{Field}
 use Rattle.dict_value.specs.declared.value.Format.{Format}
-use Rattle.dict_value.specs.declared.value.BadValue.{BadValue}
 use Rattle.dict_value.specs.declared.value.ColType.TheVariants as type
 use Rattle.dict_value.specs.declared.value.Value.{Value}
 use Rattle.dict_value.specs.declared.value.Value.TheVariants.{Null}
@@ -103,8 +102,8 @@ take-next xs i x here =
     ∙ ap (λ y. take i xs ++ y ∷ []) (sym (unwrap_or-slice_get xs i x) ∙ ap (λ o. unwrap_or o x) here)
 
 -- a column that makes Null of every field fits a nullable type
-null-is : (field : Field) (v : Value) → Ok {E = BadValue} Null ≡ Ok v → FitsColumn (record { base = type.UInt8; nullable = true }) v
-null-is field v is = let same : Null ≡ v = cc in subst (λ w. FitsColumn (record { base = type.UInt8; nullable = true }) w) same refl
-
 pub null-fits : AllFit ((λ field. Ok Null) ∷ []) (record { base = type.UInt8; nullable = true } ∷ [])
-null-fits = (null-is, tt)
+null-fits = (
+  λ field v is. let same : Null ≡ v = cc in subst (λ (w : Value). FitsColumn (record { base = type.UInt8; nullable = true }) w) same refl,
+  tt,
+)
