@@ -1,5 +1,5 @@
 -- Rows of values that fit the types of their columns.
-use Rattle.std.proofs.Common.{◌≡◌, ◌<◌, ◌≤◌, ◌+◌, ◌∷◌, ◌++◌, ◌∙◌, [], ℕ, zero, suc, List, length, take, map, Some, Ok, refl, sym, ap, subst, arith}
+use Rattle.std.proofs.Common.{◌≡◌, ◌<◌, ◌≤◌, ◌+◌, ◌∷◌, ◌++◌, ◌∙◌, [], ℕ, zero, suc, List, true, length, take, map, Some, Ok, refl, sym, ap, subst, arith}
 use Rattle.std.specs.Prelude.{get_or, slice_get}
 use Rattle.std.specs.List.{AllZip}
 use Rattle.std.specs.Option.{unwrap_or}
@@ -8,7 +8,9 @@ use Rattle.std.proofs.lemmas.Option.{none-some, slice_get_read, slice_get_within
 use Rattle.dict_value.specs.declared.value.AttrType.{AttrType}
 use Rattle.dict_value.specs.declared.value.Field.{Field}
 use Rattle.dict_value.specs.declared.value.Format.{Format}
+use Rattle.dict_value.specs.declared.value.ColType.TheVariants as type
 use Rattle.dict_value.specs.declared.value.Value.{Value}
+use Rattle.dict_value.specs.declared.value.Value.TheVariants.{Null}
 use Rattle.dict_value.specs.Values.{FitsColumn}
 use Rattle.row_text.specs.Decoding.{IsTypedRow, Reader, readings}
 use Rattle.row_text.specs.Fitting.{AllFit, ReadsFitting}
@@ -98,3 +100,10 @@ pub take-next : {A : Type 0} (xs : List A) (i : ℕ) (x : A) → slice_get xs i 
 take-next xs i x here =
     take_more xs i x (slice_get_within xs i x here)
     ∙ ap (λ y. take i xs ++ y ∷ []) (sym (unwrap_or-slice_get xs i x) ∙ ap (λ o. unwrap_or o x) here)
+
+-- a column that makes Null of every field fits a nullable type
+pub null-fits : AllFit ((λ field. Ok Null) ∷ []) (record { base = type.UInt8; nullable = true } ∷ [])
+null-fits = (
+  λ field v is. let same : Null ≡ v = cc in subst (λ (w : Value). FitsColumn (record { base = type.UInt8; nullable = true }) w) same refl,
+  tt,
+)

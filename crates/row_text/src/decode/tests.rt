@@ -1,8 +1,10 @@
+ghost use Rattle.std.specs.Prelude.{◌≤◌, length};
+
 use crate::{Columns, DecodeFault, decode_rows};
 use dict_value::{
     AttrType, BadRow, BadValue, Bytes, ColType, Field, Format, MOST_ROWS, Value, Why,
 };
-use packed_rows::Cell;
+use packed_rows::{Cell, Rows};
 use std::alloc::Global;
 use std::test::Fail;
 
@@ -10,7 +12,7 @@ use std::test::Fail;
 struct NullColumn;
 
 impl Columns for NullColumn {
-    ghost use Rattle.std.specs.Prelude.{◌∷◌, [], Ok};
+    ghost use Rattle.std.specs.Prelude.{◌∷◌, [], true, Ok};
     ghost use Rattle.dict_value.specs.declared.value.Value.TheVariants.{Null};
     ghost use Rattle.dict_value.specs.declared.value.ColType.TheVariants as type;
 
@@ -36,6 +38,13 @@ impl Columns for NullColumn {
     fn read(&self, _alloc: Global, _place: usize, _field: Field) -> Result<Value, BadValue> {
         Ok(Value::Null)
     }
+}
+
+/// What a text decodes to by that column.
+fn decode_nulls(alloc: Global, format: Format, text: &[u8]) -> Result<Rows, DecodeFault>
+    requires { length text.now ≤ 4294967295 }
+{
+    decode_rows(alloc, format, &NullColumn, text)
 }
 
 #[test]
@@ -64,7 +73,7 @@ fn decoded_rows(rt: HostRuntime) -> Result<(), Fail> {
         ),
     ];
     for (format, text, wanted) in cases {
-        let found = match decode_rows(rt.alloc(), format, &NullColumn, text) {
+        let found = match decode_nulls(rt.alloc(), format, text) {
             Ok(rows) => Ok(rows.len()),
             Err(DecodeFault::Bad(bad)) => Err(bad),
             Err(DecodeFault::TooMany | DecodeFault::NoMemory) => return Err(Fail::from(
@@ -81,7 +90,7 @@ fn row_count(alloc: Global, format: Format, text: &[u8]) -> Result<Option<usize>
     if text.len() > u32::MAX as usize {
         return Err(Fail::from("a text has a length of 32 bits"));
     }
-    match decode_rows(alloc, format, &NullColumn, text) {
+    match decode_nulls(alloc, format, text) {
         Ok(rows) => Ok(Some(rows.len())),
         Err(DecodeFault::TooMany) => Ok(None),
         Err(DecodeFault::Bad(_)) => Err(Fail::from("each line is a row")),
