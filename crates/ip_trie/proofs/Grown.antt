@@ -2,9 +2,9 @@
 use Rattle.std.proofs.Common.{◌≡◌, ◌≢◌, ◌⊎◌, Bool, ℕ, zero, suc, ◌+◌, ◌-◌, ◌*◌, ◌%◌, ◌^◌, ◌<◌, ◌≤◌, List, ◌++◌, length, get_or, set, replicate, inl, inr, refl, arith, sym, ◌∙◌, ap, subst, get_or-set_same, get_or-set_other, length-set, length-append}
 use Rattle.std.proofs.lemmas.Bool.{cases_eq, cases_lt}
 use Rattle.std.proofs.lemmas.List.{get_or-append_right, get_or_append_left, get_or_past, length-replicate}
-use Rattle.ip_trie.specs.Cells.{AreEntries, EndsAt, IsIn, IsTrie, TellsBest, below, blank, digit, entry_at, level_of, next_at, node, row_at, top}
+use Rattle.ip_trie.specs.Cells.{AreLeaves, EndsAt, IsIn, IsTrie, TellsBest, below, blank, digit, leaf_at, level_of, next_at, node, row_at, top}
 use Rattle.ip_trie.specs.declared.cells.Cell.{Cell}
-use Rattle.ip_trie.specs.declared.cells.Entry.{Entry}
+use Rattle.ip_trie.specs.declared.cells.Leaf.{Leaf}
 use Rattle.ip_trie.specs.declared.cells.TheConstants.{TABLE}
 use Rattle.ip_trie.specs.steps.Growing.{Grows, IsGrown}
 use Rattle.ip_trie.proofs.Bits.{digit-small, level-below, level-within, level-least, same-more, same-top}
@@ -51,7 +51,7 @@ one-more old at l =
 same-sixteen : (s t d e : ℕ) → s % 16 ≡ 0 → t % 16 ≡ 0 → d < 16 → e < 16 → s + d ≡ t + e → (s ≡ t) × (d ≡ e)
 same-sixteen s t d e zs zt ld le is = (omega (arith, zs, zt, ld, le, is), omega (arith, zs, zt, ld, le, is))
 
-module _ (entries : List Entry) (v6 : Bool) (n : ℕ) (sound : AreEntries entries) (old new : List Cell) (t : IsTrie entries v6 n old) where
+module _ (leaves : List Leaf) (v6 : Bool) (n : ℕ) (sound : AreLeaves leaves) (old new : List Cell) (t : IsTrie leaves v6 n old) where
   old-sound : (bits level : ℕ) → node old bits level ≢ 0 → (TABLE ≤ node old bits level) × (node old bits level % 16 ≡ 0) × (node old bits level + 16 ≤ length old)
   old-sound = node-sound old t.size t.nexts
 
@@ -65,18 +65,18 @@ module _ (entries : List Entry) (v6 : Bool) (n : ℕ) (sound : AreEntries entrie
       let p = t.apart a b level other la lb ll lo sa q.0 in
       (q.0, (p.0, p.1, q.1))
 
-  module _ (row level : ℕ) (of : IsIn entries v6 row) (short : level < level_of (entry_at entries row).len)
-      (some : node old (entry_at entries row).bits level ≢ 0)
-      (free : next_at old (node old (entry_at entries row).bits level + digit level (entry_at entries row).bits) ≡ 0)
-      (more : IsOneMore old (node old (entry_at entries row).bits level + digit level (entry_at entries row).bits) new) where
+  module _ (row level : ℕ) (of : IsIn leaves v6 row) (short : level < level_of (leaf_at leaves row).len)
+      (some : node old (leaf_at leaves row).bits level ≢ 0)
+      (free : next_at old (node old (leaf_at leaves row).bits level + digit level (leaf_at leaves row).bits) ≡ 0)
+      (more : IsOneMore old (node old (leaf_at leaves row).bits level + digit level (leaf_at leaves row).bits) new) where
     abbrev x : ℕ
-    x = (entry_at entries row).bits
+    x = (leaf_at leaves row).bits
 
     abbrev at : ℕ
     at = node old x level + digit level x
 
     low : level < 31
-    low = let w = level-within (entry_at entries row).len (sound.len row) in omega (arith, w, short)
+    low = let w = level-within (leaf_at leaves row).len (sound.len row) in omega (arith, w, short)
 
     at-within : at < length old
     at-within = let s = old-sound x level some in let s2 = s.2 in let d = digit-small level x in omega (arith, s2, d)
@@ -144,7 +144,7 @@ module _ (entries : List Entry) (v6 : Bool) (n : ℕ) (sound : AreEntries entrie
               now ∙ (ap (λ k. next_at new (k + digit level x)) base ∙ more.here)
         ]
 
-    pub grown-trie : IsTrie entries v6 n new
+    pub grown-trie : IsTrie leaves v6 n new
     grown-trie = record {
       size = let s = t.size in let m = more.len in omega (arith, s, m);
       whole = let s = t.whole in let m = more.len in omega (arith, s, m);
@@ -185,37 +185,37 @@ module _ (entries : List Entry) (v6 : Bool) (n : ℕ) (sound : AreEntries entrie
         ]
       ];
       paths = λ r l less inside le.
-          let w = level-within (entry_at entries r).len (sound.len r) in
-          kept (entry_at entries r).bits l (sound.small r) (omega (arith, le, w)) (t.paths r l less inside le);
+          let w = level-within (leaf_at leaves r).len (sound.len r) in
+          kept (leaf_at leaves r).bits l (sound.small r) (omega (arith, le, w)) (t.paths r l less inside le);
       used = λ bits l lb ll there. elim (ways bits (l + 1) lb (omega (arith, ll))) [
         | inl same ↦ t.used bits l lb ll (λ z. there (same ∙ z))
         | inr made ↦
             let e = made.0 in
-            let b = level-below (entry_at entries row).len level short in
+            let b = level-below (leaf_at leaves row).len level short in
             (row, of, omega (arith, b, e), sym made.1)
       ];
       told = λ bits l lb ll there. elim (ways bits l lb (omega (arith, ll))) [
         | inl same ↦
             let r : row_at new (node new bits l + digit l bits) ≡ row_at old (node old bits l + digit l bits) =
             more.rows (node new bits l + digit l bits) ∙ ap (λ k. row_at old (k + digit l bits)) same in
-            subst (TellsBest entries (EndsAt entries v6 n l bits)) (sym r) (t.told bits l lb ll (λ z. there (same ∙ z)))
+            subst (TellsBest leaves (EndsAt leaves v6 n l bits)) (sym r) (t.told bits l lb ll (λ z. there (same ∙ z)))
         | inr made ↦
             let z : row_at new (node new bits l + digit l bits) ≡ 0 =
             more.rows (node new bits l + digit l bits) ∙ row-past old (node new bits l + digit l bits) (let q = made.2 in omega (arith, q)) in
             inl (
               z,
               λ r (less, has, ends).
-                  let m = level-least (entry_at entries r).len in
+                  let m = level-least (leaf_at leaves r).len in
                   let there_old = t.paths r l less has.0 (omega (arith, ends)) in
-                  let same = node-agree old (entry_at entries r).bits bits l (omega (arith, ll)) (same-top (4 * l) (entry_at entries r).len (entry_at entries r).bits bits (omega (arith, m, ends)) (sound.len r) has.1) in
+                  let same = node-agree old (leaf_at leaves r).bits bits l (omega (arith, ll)) (same-top (4 * l) (leaf_at leaves r).len (leaf_at leaves r).bits bits (omega (arith, m, ends)) (sound.len r) has.1) in
                   there_old (same ∙ made.3),
             )
       ];
     }
 
-    pub grown-way : IsGrown entries v6 row level (node old x level) old → n ≡ row → IsGrown entries v6 row (level + 1) (length old) new
+    pub grown-way : IsGrown leaves v6 row level (node old x level) old → n ≡ row → IsGrown leaves v6 row (level + 1) (length old) new
     grown-way g e = record {
-      trie = subst (λ k. IsTrie entries v6 k new) e grown-trie;
+      trie = subst (λ k. IsTrie leaves v6 k new) e grown-trie;
       here = sym made-here;
       some = let s = t.size in λ z. omega (arith, s, z);
       way = λ above le. elim (cases_lt above (level + 1)) [
@@ -229,26 +229,26 @@ module _ (entries : List Entry) (v6 : Bool) (n : ℕ) (sound : AreEntries entrie
 
 -- ---- the way of a row
 
-pub way-start : (entries : List Entry) (v6 : Bool) (row : ℕ) (cells : List Cell) → IsTrie entries v6 row cells → IsGrown entries v6 row 0 TABLE cells
-way-start entries v6 row cells t = record {
+pub way-start : (leaves : List Leaf) (v6 : Bool) (row : ℕ) (cells : List Cell) → IsTrie leaves v6 row cells → IsGrown leaves v6 row 0 TABLE cells
+way-start leaves v6 row cells t = record {
   trie = t;
-  here = sym (node-none cells (entry_at entries row).bits);
+  here = sym (node-none cells (leaf_at leaves row).bits);
   some = λ z. omega (arith, z);
   way = λ above le z.
       let e : above ≡ 0 = omega (arith, le) in
-      let n = node-none cells (entry_at entries row).bits in
-      let q = subst (λ k. node cells (entry_at entries row).bits k ≡ 0) e z in
+      let n = node-none cells (leaf_at leaves row).bits in
+      let q = subst (λ k. node cells (leaf_at leaves row).bits k ≡ 0) e z in
       omega (arith, n, q);
 }
 
-pub way-more : (entries : List Entry) (v6 : Bool) (row level start next : ℕ) (old new : List Cell) → AreEntries entries → IsIn entries v6 row → level < level_of (entry_at entries row).len
-    → IsGrown entries v6 row level start old → Grows old (start + digit level (entry_at entries row).bits) new next → IsGrown entries v6 row (level + 1) next new
-way-more entries v6 row level start next old new sound of short g (inl (some, same, is)) =
-    let x = (entry_at entries row).bits in
+pub way-more : (leaves : List Leaf) (v6 : Bool) (row level start next : ℕ) (old new : List Cell) → AreLeaves leaves → IsIn leaves v6 row → level < level_of (leaf_at leaves row).len
+    → IsGrown leaves v6 row level start old → Grows old (start + digit level (leaf_at leaves row).bits) new next → IsGrown leaves v6 row (level + 1) next new
+way-more leaves v6 row level start next old new sound of short g (inl (some, same, is)) =
+    let x = (leaf_at leaves row).bits in
     let there : node old x level ≢ 0 = λ z. g.some (g.here ∙ z) in
     let on : node old x (level + 1) ≡ next = node-next old x level there ∙ (ap (λ k. next_at old (k + digit level x)) (sym g.here) ∙ sym is) in
     let more : next ≢ 0 = λ z. some (sym is ∙ z) in
-    subst (λ (c : List Cell). IsGrown entries v6 row (level + 1) next c) (sym same) (record {
+    subst (λ (c : List Cell). IsGrown leaves v6 row (level + 1) next c) (sym same) (record {
       trie = g.trie;
       here = sym on;
       some = more;
@@ -257,8 +257,8 @@ way-more entries v6 row level start next old new sound of short g (inl (some, sa
         | inr last ↦ let e : level + 1 ≡ above = omega (arith, le, last) in subst (λ k. node old x k ≢ 0) e (λ z. more (sym on ∙ z))
       ];
     })
-way-more entries v6 row level start next old new sound of short g (inr (free, is, made)) =
-    let x = (entry_at entries row).bits in
+way-more leaves v6 row level start next old new sound of short g (inr (free, is, made)) =
+    let x = (leaf_at leaves row).bits in
     let there : node old x level ≢ 0 = λ z. g.some (g.here ∙ z) in
     let s = (node-sound old g.trie.size g.trie.nexts x level there).2 in
     let d = digit-small level x in
@@ -267,11 +267,11 @@ way-more entries v6 row level start next old new sound of short g (inr (free, is
     let cells : new ≡ set (old ++ replicate 16 blank) (node old x level + digit level x) (record (get_or old (node old x level + digit level x) blank) { next = length old }) =
     made ∙ ap (λ k. set (old ++ replicate 16 blank) (k + digit level x) (record (get_or old (k + digit level x) blank) { next = length old })) g.here in
     let more = subst (IsOneMore old (node old x level + digit level x)) (sym cells) (one-more old (node old x level + digit level x) within) in
-    let grown = grown-way entries v6 row sound old new g.trie row level of short there free_at more (subst (λ k. IsGrown entries v6 row level k old) g.here g) refl in
-    subst (λ k. IsGrown entries v6 row (level + 1) k new) (sym is) grown
+    let grown = grown-way leaves v6 row sound old new g.trie row level of short there free_at more (subst (λ k. IsGrown leaves v6 row level k old) g.here g) refl in
+    subst (λ k. IsGrown leaves v6 row (level + 1) k new) (sym is) grown
 
-pub way-room : (entries : List Entry) (v6 : Bool) (row level start : ℕ) (cells : List Cell) → IsGrown entries v6 row level start cells → start + 16 ≤ length cells
-way-room entries v6 row level start cells g =
-    let s = (node-sound cells g.trie.size g.trie.nexts (entry_at entries row).bits level (λ z. g.some (g.here ∙ z))).2 in
+pub way-room : (leaves : List Leaf) (v6 : Bool) (row level start : ℕ) (cells : List Cell) → IsGrown leaves v6 row level start cells → start + 16 ≤ length cells
+way-room leaves v6 row level start cells g =
+    let s = (node-sound cells g.trie.size g.trie.nexts (leaf_at leaves row).bits level (λ z. g.some (g.here ∙ z))).2 in
     let h = g.here in
     omega (arith, s, h)

@@ -1,4 +1,4 @@
--- Rows as prefixes of texts and as entries.
+-- Rows as prefixes of texts and as leaves.
 use Rattle.std.specs.List.{slice_get}
 use Rattle.std.proofs.Common.{◌≡◌, ◌≢◌, ◌⊎◌, Bool, true, false, cond, ℕ, zero, suc, ◌+◌, ◌-◌, ◌*◌, ◌/◌, ◌%◌, ◌^◌, ◌<◌, ◌≤◌, List, [], ◌∷◌, ◌++◌, length, Option, Some, None, Ok, inl, inr, refl, arith, sym, ◌∙◌, ap, subst, length-append}
 use Rattle.std.proofs.lemmas.Bool.{cases_eq, cases_lt}
@@ -11,10 +11,10 @@ use Rattle.dict_value.specs.Addresses.{IsPrefix, first_bits, prefix_of, prefix_w
 use Rattle.dict_value.specs.declared.value.Address.{Address}
 use Rattle.dict_value.specs.declared.value.Address.TheVariants as address
 use Rattle.dict_value.specs.declared.value.Prefix.{Prefix}
-use Rattle.ip_trie.specs.Cells.{AreEntries, Has, Shares, TellsBest, aligned, entry_at, entry_of, no_entry, top}
+use Rattle.ip_trie.specs.Cells.{AreLeaves, Has, Shares, TellsBest, aligned, leaf_at, leaf_of, no_leaf, top}
 use Rattle.ip_trie.specs.FindByAddress.{FindsByAddress, HasInCommon, HasPrefixAt, Holds, IsLongest, shortened}
-use Rattle.ip_trie.specs.Kept.{AreEntriesOf}
-use Rattle.ip_trie.specs.declared.cells.Entry.{Entry}
+use Rattle.ip_trie.specs.Kept.{AreLeavesOf}
+use Rattle.ip_trie.specs.declared.cells.Leaf.{Leaf}
 
 -- the bits of an address of a family
 pub data IsBits : Address → Bool → ℕ → Type 0 where
@@ -88,38 +88,38 @@ get-some [] i l = absurd (omega (arith, l))
 get-some (x ∷ xs) zero l = (x, refl)
 get-some (x ∷ xs) (suc i) l = get-some xs i (omega arith)
 
-module _ (texts : List (List ℕ)) (entries : List Entry) (read : AreEntriesOf texts entries) (a : Address) (v6 : Bool) (bits : ℕ) (of : IsBits a v6 bits) where
+module _ (texts : List (List ℕ)) (leaves : List Leaf) (read : AreLeavesOf texts leaves) (a : Address) (v6 : Bool) (bits : ℕ) (of : IsBits a v6 bits) where
   -- the prefix of a row
-  row-prefix : (row : ℕ) → row < length entries → (p : Prefix) × HasPrefixAt texts row p × IsPrefix p × (entry_at entries row ≡ entry_of p)
+  row-prefix : (row : ℕ) → row < length leaves → (p : Prefix) × HasPrefixAt texts row p × IsPrefix p × (leaf_at leaves row ≡ leaf_of p)
   row-prefix row l =
       let text = get-some texts row (let n = read.len in omega (arith, n, l)) in
       let e = read.each row text.0 text.1 in
-      (e.0, (text.0, text.1, e.1), e.2, get_or_from_slice_get entries row (entry_of e.0) no_entry e.3)
+      (e.0, (text.0, text.1, e.1), e.2, get_or_from_slice_get leaves row (leaf_of e.0) no_leaf e.3)
 
-  -- the entry of a prefix
-  prefix-row : (row : ℕ) (p : Prefix) → HasPrefixAt texts row p → (row < length entries) × IsPrefix p × (entry_at entries row ≡ entry_of p)
+  -- the leaf of a prefix
+  prefix-row : (row : ℕ) (p : Prefix) → HasPrefixAt texts row p → (row < length leaves) × IsPrefix p × (leaf_at leaves row ≡ leaf_of p)
   prefix-row row p (text, here, reads) =
       let e = read.each row text here in
       let same : e.0 ≡ p = let x = e.1 in cc (x, reads) in
-      (slice_get_within entries row (entry_of e.0) e.3, subst IsPrefix same e.2, get_or_from_slice_get entries row (entry_of e.0) no_entry e.3 ∙ ap entry_of same)
+      (slice_get_within leaves row (leaf_of e.0) e.3, subst IsPrefix same e.2, get_or_from_slice_get leaves row (leaf_of e.0) no_leaf e.3 ∙ ap leaf_of same)
 
-  has-from : (row : ℕ) (p : Prefix) → row < length entries → IsPrefix p → entry_at entries row ≡ entry_of p → Holds p a → Has entries v6 bits row
+  has-from : (row : ℕ) (p : Prefix) → row < length leaves → IsPrefix p → leaf_at leaves row ≡ leaf_of p → Holds p a → Has leaves v6 bits row
   has-from row p l is e h =
       let q = holds-to p a v6 bits is of h in
-      ((l, ap (λ (x : Entry). x.v6) e ∙ q.0), subst (λ (x : Entry). top x.len x.bits ≡ top x.len bits) (sym e) q.1)
+      ((l, ap (λ (x : Leaf). x.v6) e ∙ q.0), subst (λ (x : Leaf). top x.len x.bits ≡ top x.len bits) (sym e) q.1)
 
-  has-to : (row : ℕ) (p : Prefix) → IsPrefix p → entry_at entries row ≡ entry_of p → Has entries v6 bits row → Holds p a
+  has-to : (row : ℕ) (p : Prefix) → IsPrefix p → leaf_at leaves row ≡ leaf_of p → Has leaves v6 bits row → Holds p a
   has-to row p is e (inside, same) =
-      holds-from p a v6 bits is of (sym (ap (λ (x : Entry). x.v6) e) ∙ inside.1, subst (λ (x : Entry). top x.len x.bits ≡ top x.len bits) e same)
+      holds-from p a v6 bits is of (sym (ap (λ (x : Leaf). x.v6) e) ∙ inside.1, subst (λ (x : Leaf). top x.len x.bits ≡ top x.len bits) e same)
 
   -- the best row is the answer
-  pub found-none : TellsBest entries (Has entries v6 bits) 0 → FindsByAddress texts a None
+  pub found-none : TellsBest leaves (Has leaves v6 bits) 0 → FindsByAddress texts a None
   found-none (inl (z, none)) = λ place p here holds.
       let r = prefix-row place p here in
       none place (has-from place p r.0 r.1 r.2 holds)
   found-none (inr t) = absurd (let is = t.1 in omega (arith, is))
 
-  pub found-some : (cell : ℕ) → cell ≢ 0 → TellsBest entries (Has entries v6 bits) cell → FindsByAddress texts a (Some (cell - 1))
+  pub found-some : (cell : ℕ) → cell ≢ 0 → TellsBest leaves (Has leaves v6 bits) cell → FindsByAddress texts a (Some (cell - 1))
   found-some cell some (inl (z, none)) = absurd (some z)
   found-some cell some (inr (best, is, here, most)) =
       let e : best ≡ cell - 1 = omega (arith, is) in
@@ -130,8 +130,8 @@ module _ (texts : List (List ℕ)) (entries : List Entry) (read : AreEntriesOf t
         holds = has-to best p.0 p.2 p.3 here;
         longest = λ other q has holds.
             let r = prefix-row other q has in
-            let lens : (entry_at entries best).len ≡ p.0.len = ap (λ (x : Entry). x.len) p.3 in
-            let lq : (entry_at entries other).len ≡ q.len = ap (λ (x : Entry). x.len) r.2 in
+            let lens : (leaf_at leaves best).len ≡ p.0.len = ap (λ (x : Leaf). x.len) p.3 in
+            let lq : (leaf_at leaves other).len ≡ q.len = ap (λ (x : Leaf). x.len) r.2 in
             elim (most other (has-from other q r.0 r.1 r.2 holds)) [
               | inl less ↦ inl (omega (arith, less, lens, lq))
               | inr same ↦ inr (let s = same.0 in omega (arith, s, lens, lq), same.1)
@@ -139,33 +139,33 @@ module _ (texts : List (List ℕ)) (entries : List Entry) (read : AreEntriesOf t
       })
 
   -- what a row shares, its prefix has in common
-  pub in-common : (count : ℕ) → (count ≡ 0) ⊎ Shares entries v6 bits count → HasInCommon texts a count
+  pub in-common : (count : ℕ) → (count ≡ 0) ⊎ Shares leaves v6 bits count → HasInCommon texts a count
   in-common count (inl none) = inl none
   in-common count (inr (row, inside, l, same)) =
       let p = row-prefix row inside.0 in
-      let v : p.0.v6 ≡ v6 = sym (ap (λ (x : Entry). x.v6) p.3) ∙ inside.1 in
-      let len : (entry_at entries row).len ≡ p.0.len = ap (λ (x : Entry). x.len) p.3 in
+      let v : p.0.v6 ≡ v6 = sym (ap (λ (x : Leaf). x.v6) p.3) ∙ inside.1 in
+      let len : (leaf_at leaves row).len ≡ p.0.len = ap (λ (x : Leaf). x.len) p.3 in
       let less : count ≤ p.0.len = omega (arith, l, len) in
-      inr (row, p.0, p.1, less, common-from p.0 a v6 bits count p.2 of v less (subst (λ (x : Entry). top count x.bits ≡ top count bits) p.3 same))
+      inr (row, p.0, p.1, less, common-from p.0 a v6 bits count p.2 of v less (subst (λ (x : Leaf). top count x.bits ≡ top count bits) p.3 same))
 
 -- what was read of a text
 pub reads-prefix : {text : Option Prefix} (seen : Option Prefix) (p : Prefix) → text ≡ seen → Ok p ≡ given seen BadAddress Ok → text ≡ Some p
 reads-prefix None p same e = absurd (cc (e))
 reads-prefix (Some q) p same e = let s : q ≡ p = cc (e) in same ∙ ap Some s
 
--- an entry more
-pub entries-push : (entries : List Entry) (e : Entry) → AreEntries entries → e.len ≤ 128 → e.bits < 2 ^ 128 → e.bits % 2 ^ (128 - e.len) ≡ 0 → AreEntries (entries ++ e ∷ [])
-entries-push entries e sound len small cleared = record {
-  len = λ row. at (λ (x : Entry). x.len ≤ 128) row (sound.len row) len (omega arith);
-  small = λ row. at (λ (x : Entry). x.bits < 2 ^ 128) row (sound.small row) small (omega arith);
-  cleared = λ row. at (λ (x : Entry). x.bits % 2 ^ (128 - x.len) ≡ 0) row (sound.cleared row) cleared refl;
+-- a leaf more
+pub leaves-push : (leaves : List Leaf) (e : Leaf) → AreLeaves leaves → e.len ≤ 128 → e.bits < 2 ^ 128 → e.bits % 2 ^ (128 - e.len) ≡ 0 → AreLeaves (leaves ++ e ∷ [])
+leaves-push leaves e sound len small cleared = record {
+  len = λ row. at (λ (x : Leaf). x.len ≤ 128) row (sound.len row) len (omega arith);
+  small = λ row. at (λ (x : Leaf). x.bits < 2 ^ 128) row (sound.small row) small (omega arith);
+  cleared = λ row. at (λ (x : Leaf). x.bits % 2 ^ (128 - x.len) ≡ 0) row (sound.cleared row) cleared refl;
 }
   where
-    at : (P : Entry → Type 0) (row : ℕ) → P (entry_at entries row) → P e → P no_entry → P (entry_at (entries ++ e ∷ []) row)
-    at P row old new none = elim (cases_lt row (length entries)) [
-      | inl less ↦ subst P (sym (get_or_append_left entries (e ∷ []) no_entry row less)) old
-      | inr most ↦ elim (cases_eq row (length entries)) [
-        | inl last ↦ subst P (sym (get_or_push entries e no_entry row (sym last))) new
-        | inr past ↦ subst P (sym (get_or_past (entries ++ e ∷ []) row no_entry (let l = length-append entries (e ∷ []) in omega (arith, l, most, past)))) none
+    at : (P : Leaf → Type 0) (row : ℕ) → P (leaf_at leaves row) → P e → P no_leaf → P (leaf_at (leaves ++ e ∷ []) row)
+    at P row old new none = elim (cases_lt row (length leaves)) [
+      | inl less ↦ subst P (sym (get_or_append_left leaves (e ∷ []) no_leaf row less)) old
+      | inr most ↦ elim (cases_eq row (length leaves)) [
+        | inl last ↦ subst P (sym (get_or_push leaves e no_leaf row (sym last))) new
+        | inr past ↦ subst P (sym (get_or_past (leaves ++ e ∷ []) row no_leaf (let l = length-append leaves (e ∷ []) in omega (arith, l, most, past)))) none
       ]
     ]

@@ -3,36 +3,36 @@ use Rattle.std.proofs.Common.{◌≡◌, ◌≢◌, ◌⊎◌, Bool, ℕ, zero, 
 use Rattle.std.specs.List.{slice_get}
 use Rattle.std.proofs.lemmas.Bool.{cases_eq, cases_lt}
 use Rattle.std.proofs.lemmas.Option.{get_or_from_slice_get}
-use Rattle.ip_trie.specs.Cells.{AreEntries, EndsAbove, EndsAt, Has, IsClosed, IsSlot, IsTrie, Shares, TellsBest, blank, digit, entry_at, level_of, next_at, node, row_at, top}
+use Rattle.ip_trie.specs.Cells.{AreLeaves, EndsAbove, EndsAt, Has, IsClosed, IsBucket, IsTrie, Shares, TellsBest, blank, digit, leaf_at, level_of, next_at, node, row_at, top}
 use Rattle.ip_trie.specs.Kept.{AreCellsOf, IsFilled}
 use Rattle.ip_trie.specs.declared.cells.Cell.{Cell}
-use Rattle.ip_trie.specs.declared.cells.Entry.{Entry}
+use Rattle.ip_trie.specs.declared.cells.Leaf.{Leaf}
 use Rattle.ip_trie.specs.declared.cells.TheConstants.{TABLE}
 use Rattle.ip_trie.proofs.Bits.{level-least, level-most, level-within, same-top, top-none}
 use Rattle.ip_trie.proofs.Nodes.{next-past, node-agree, node-next, node-same, node-sound, node-up}
 use Rattle.ip_trie.proofs.Tells.{tells-by, tells-level}
 
-module _ (entries : List Entry) (v6 : Bool) (cells : List Cell) (sound : AreEntries entries) (t : IsTrie entries v6 (length entries) cells) (bits : ℕ) (small : bits < 2 ^ 128) where
+module _ (leaves : List Leaf) (v6 : Bool) (cells : List Cell) (sound : AreLeaves leaves) (t : IsTrie leaves v6 (length leaves) cells) (bits : ℕ) (small : bits < 2 ^ 128) where
   -- where a way ends, all rows that hold the bits end above
-  pub ended : (level : ℕ) → level ≤ 32 → node cells bits level ≡ 0 → (row : ℕ) → Has entries v6 bits row → level_of (entry_at entries row).len < level
-  ended level l none row has = elim (cases_lt (level_of (entry_at entries row).len) level) [
+  pub ended : (level : ℕ) → level ≤ 32 → node cells bits level ≡ 0 → (row : ℕ) → Has leaves v6 bits row → level_of (leaf_at leaves row).len < level
+  ended level l none row has = elim (cases_lt (level_of (leaf_at leaves row).len) level) [
     | inl less ↦ less
     | inr most ↦
-        let m = level-least (entry_at entries row).len in
-        let same = node-agree cells (entry_at entries row).bits bits level l (same-top (4 * level) (entry_at entries row).len (entry_at entries row).bits bits (omega (arith, m, most)) (sound.len row) has.1) in
+        let m = level-least (leaf_at leaves row).len in
+        let same = node-agree cells (leaf_at leaves row).bits bits level l (same-top (4 * level) (leaf_at leaves row).len (leaf_at leaves row).bits bits (omega (arith, m, most)) (sound.len row) has.1) in
         absurd (t.paths row level has.0.0 has.0 most (same ∙ none))
   ]
 
-  pub ended-all : (row : ℕ) → Has entries v6 bits row → level_of (entry_at entries row).len < 32
-  ended-all row has = level-within (entry_at entries row).len (sound.len row)
+  pub ended-all : (row : ℕ) → Has leaves v6 bits row → level_of (leaf_at leaves row).len < 32
+  ended-all row has = level-within (leaf_at leaves row).len (sound.len row)
 
   -- a step by the cell that was read
   pub step-row : (level best next : ℕ) (cell : Cell) → level < 32 → node cells bits level ≢ 0 → get_or cells (node cells bits level + digit level bits) blank ≡ cell
-      → (cell.row ≡ 0 → next ≡ best) → (cell.row ≢ 0 → next ≡ cell.row) → TellsBest entries (EndsAbove entries v6 level bits) best → TellsBest entries (EndsAbove entries v6 (level + 1) bits) next
+      → (cell.row ≡ 0 → next ≡ best) → (cell.row ≢ 0 → next ≡ cell.row) → TellsBest leaves (EndsAbove leaves v6 level bits) best → TellsBest leaves (EndsAbove leaves v6 (level + 1) bits) next
   step-row level best next cell l some read kept new b =
       let told = t.told bits level small l some in
       let r = ap (λ (c : Cell). c.row) read in
-      tells-level entries v6 bits level best cell.row next b (subst (TellsBest entries (EndsAt entries v6 (length entries) level bits)) r told) kept new
+      tells-level leaves v6 bits level best cell.row next b (subst (TellsBest leaves (EndsAt leaves v6 (length leaves) level bits)) r told) kept new
 
   pub step-node : (level : ℕ) (cell : Cell) → node cells bits level ≢ 0 → get_or cells (node cells bits level + digit level bits) blank ≡ cell → cell.next ≡ node cells bits (level + 1)
   step-node level cell some read = sym (ap (λ (c : Cell). c.next) read) ∙ sym (node-next cells bits level some)
@@ -41,38 +41,38 @@ module _ (entries : List Entry) (v6 : Bool) (cells : List Cell) (sound : AreEntr
 pub cell-read : (cells : List Cell) (i : ℕ) (cell : Cell) → slice_get cells i ≡ Some cell → get_or cells i blank ≡ cell
 cell-read cells i cell read = get_or_from_slice_get cells i cell blank read
 
-pub filled-of : (entries : List Entry) (v6 : Bool) (cells : List Cell) → cells ≢ [] → AreCellsOf entries v6 cells → IsFilled entries v6 cells
-filled-of entries v6 cells some (inl none) = absurd (some none.0)
-filled-of entries v6 cells some (inr filled) = filled
+pub filled-of : (leaves : List Leaf) (v6 : Bool) (cells : List Cell) → cells ≢ [] → AreCellsOf leaves v6 cells → IsFilled leaves v6 cells
+filled-of leaves v6 cells some (inl none) = absurd (some none.0)
+filled-of leaves v6 cells some (inr filled) = filled
 
 -- ---- the table
 
 -- the cells of a table, and a trie as it was
-module _ (entries : List Entry) (v6 : Bool) (old new : List Cell) (slot : ℕ) (cell : Cell) (low : slot < TABLE) (is : new ≡ set old slot cell)
-    (sound : AreEntries entries) (t : IsTrie entries v6 (length entries) old)
-    (within : cell.next ≢ 0 → (cell.next ≡ TABLE) ⊎ ((i : ℕ) × (cell.next ≡ next_at old i))) (row : cell.row ≤ length entries) where
+module _ (leaves : List Leaf) (v6 : Bool) (old new : List Cell) (bucket : ℕ) (cell : Cell) (low : bucket < TABLE) (is : new ≡ set old bucket cell)
+    (sound : AreLeaves leaves) (t : IsTrie leaves v6 (length leaves) old)
+    (within : cell.next ≢ 0 → (cell.next ≡ TABLE) ⊎ ((i : ℕ) × (cell.next ≡ next_at old i))) (row : cell.row ≤ length leaves) where
   len : length new ≡ length old
-  len = ap length is ∙ length-set old slot cell
+  len = ap length is ∙ length-set old bucket cell
 
-  inside : slot < length old
+  inside : bucket < length old
   inside = let s = t.size in let l = low in omega (arith, s, l)
 
-  here : get_or new slot blank ≡ cell
-  here = ap (λ (z : List Cell). get_or z slot blank) is ∙ get_or-set_same old slot cell blank inside
+  here : get_or new bucket blank ≡ cell
+  here = ap (λ (z : List Cell). get_or z bucket blank) is ∙ get_or-set_same old bucket cell blank inside
 
-  other : (i : ℕ) → i ≢ slot → get_or new i blank ≡ get_or old i blank
-  other i ne = ap (λ (z : List Cell). get_or z i blank) is ∙ get_or-set_other old slot i cell blank ne
+  other : (i : ℕ) → i ≢ bucket → get_or new i blank ≡ get_or old i blank
+  other i ne = ap (λ (z : List Cell). get_or z i blank) is ∙ get_or-set_other old bucket i cell blank ne
 
-  pub slot-node : (bits level : ℕ) → node new bits level ≡ node old bits level
-  slot-node bits level = node-same old new bits level
+  pub bucket-node : (bits level : ℕ) → node new bits level ≡ node old bits level
+  bucket-node bits level = node-same old new bits level
       (λ i far. ap (λ (c : Cell). c.next) (other i (let l = low in λ e. omega (arith, e, far, l))))
       (λ k some. (node-sound old t.size t.nexts bits k some).0)
 
-  pub slot-trie : IsTrie entries v6 (length entries) new
-  slot-trie = record {
+  pub bucket-trie : IsTrie leaves v6 (length leaves) new
+  bucket-trie = record {
     size = let s = t.size in let l = len in omega (arith, s, l);
     whole = let s = t.whole in let l = len in omega (arith, s, l);
-    nexts = λ i some. elim (cases_eq i slot) [
+    nexts = λ i some. elim (cases_eq i bucket) [
       | inr ne ↦
           let e = ap (λ (c : Cell). c.next) (other i ne) in
           let q = t.nexts i (λ z. some (e ∙ z)) in
@@ -91,50 +91,50 @@ module _ (entries : List Entry) (v6 : Bool) (old new : List Cell) (slot : ℕ) (
                 (omega (arith, n, m, q0), omega (arith, n, m, q1), omega (arith, n, m, q2, l))
           ]
     ];
-    rows = λ i. elim (cases_eq i slot) [
+    rows = λ i. elim (cases_eq i bucket) [
       | inr ne ↦ let e = ap (λ (c : Cell). c.row) (other i ne) in let r = t.rows i in omega (arith, e, r)
       | inl e ↦ let n : row_at new i ≡ cell.row = ap (row_at new) e ∙ ap (λ (c : Cell). c.row) here in let r = row in omega (arith, n, r)
     ];
-    apart = λ a b l m la lb ll lm some same. t.apart a b l m la lb ll lm (λ z. some (slot-node a l ∙ z)) (sym (slot-node a l) ∙ (same ∙ slot-node b m));
-    paths = λ r l less in_family le none. t.paths r l less in_family le (sym (slot-node (entry_at entries r).bits l) ∙ none);
-    used = λ bits l lb ll some. t.used bits l lb ll (λ z. some (slot-node bits (l + 1) ∙ z));
+    apart = λ a b l m la lb ll lm some same. t.apart a b l m la lb ll lm (λ z. some (bucket-node a l ∙ z)) (sym (bucket-node a l) ∙ (same ∙ bucket-node b m));
+    paths = λ r l less in_family le none. t.paths r l less in_family le (sym (bucket-node (leaf_at leaves r).bits l) ∙ none);
+    used = λ bits l lb ll some. t.used bits l lb ll (λ z. some (bucket-node bits (l + 1) ∙ z));
     told = λ bits l lb ll some.
-        let old_some : node old bits l ≢ 0 = λ z. some (slot-node bits l ∙ z) in
+        let old_some : node old bits l ≢ 0 = λ z. some (bucket-node bits l ∙ z) in
         let far = (node-sound old t.size t.nexts bits l old_some).0 in
         let e : row_at new (node new bits l + digit l bits) ≡ row_at old (node old bits l + digit l bits) =
-        ap (λ k. row_at new (k + digit l bits)) (slot-node bits l) ∙ ap (λ (c : Cell). c.row) (other (node old bits l + digit l bits) (let w = low in λ z. omega (arith, z, far, w))) in
-        subst (TellsBest entries (EndsAt entries v6 (length entries) l bits)) (sym e) (t.told bits l lb ll old_some);
+        ap (λ k. row_at new (k + digit l bits)) (bucket-node bits l) ∙ ap (λ (c : Cell). c.row) (other (node old bits l + digit l bits) (let w = low in λ z. omega (arith, z, far, w))) in
+        subst (TellsBest leaves (EndsAt leaves v6 (length leaves) l bits)) (sym e) (t.told bits l lb ll old_some);
   }
 
-  -- the other slots tell what they told
-  pub slot-kept : (s : ℕ) → s ≢ slot → IsSlot entries v6 old s → IsSlot entries v6 new s
-  slot-kept s ne h = λ bits small first.
+  -- the other buckets tell what they told
+  pub bucket-kept : (s : ℕ) → s ≢ bucket → IsBucket leaves v6 old s → IsBucket leaves v6 new s
+  bucket-kept s ne h = λ bits small first.
       let q = h bits small first in
       let e = other s ne in
-      (ap (λ (c : Cell). c.next) e ∙ (q.0 ∙ sym (slot-node bits 4)), subst (TellsBest entries (EndsAbove entries v6 4 bits)) (sym (ap (λ (c : Cell). c.row) e)) q.1)
+      (ap (λ (c : Cell). c.next) e ∙ (q.0 ∙ sym (bucket-node bits 4)), subst (TellsBest leaves (EndsAbove leaves v6 4 bits)) (sym (ap (λ (c : Cell). c.row) e)) q.1)
 
   -- the new one tells what the first levels tell of some bits
-  pub slot-made : (first : ℕ) → top 16 first ≡ slot → cell.next ≡ node old first 4 → TellsBest entries (EndsAbove entries v6 4 first) cell.row → IsSlot entries v6 new slot
-  slot-made first at n b = λ bits small same.
+  pub bucket-made : (first : ℕ) → top 16 first ≡ bucket → cell.next ≡ node old first 4 → TellsBest leaves (EndsAbove leaves v6 4 first) cell.row → IsBucket leaves v6 new bucket
+  bucket-made first at n b = λ bits small same.
       let agree : top 16 first ≡ top 16 bits = at ∙ sym same in
       let way : node old first 4 ≡ node old bits 4 = node-agree old first bits 4 (omega arith) agree in
-      let short : (r : ℕ) → level_of (entry_at entries r).len < 4 → (entry_at entries r).len ≤ 16 = λ r l. let m = level-most (entry_at entries r).len in omega (arith, m, l) in
-      let tops : (r : ℕ) → level_of (entry_at entries r).len < 4 → top (entry_at entries r).len first ≡ top (entry_at entries r).len bits = λ r l.
-      same-top (entry_at entries r).len 16 first bits (short r l) (omega arith) agree in (
-        ap (λ (c : Cell). c.next) here ∙ (n ∙ (way ∙ sym (slot-node bits 4))),
-        subst (TellsBest entries (EndsAbove entries v6 4 bits)) (sym (ap (λ (c : Cell). c.row) here))
-            (tells-by entries (EndsAbove entries v6 4 first) (EndsAbove entries v6 4 bits) cell.row
+      let short : (r : ℕ) → level_of (leaf_at leaves r).len < 4 → (leaf_at leaves r).len ≤ 16 = λ r l. let m = level-most (leaf_at leaves r).len in omega (arith, m, l) in
+      let tops : (r : ℕ) → level_of (leaf_at leaves r).len < 4 → top (leaf_at leaves r).len first ≡ top (leaf_at leaves r).len bits = λ r l.
+      same-top (leaf_at leaves r).len 16 first bits (short r l) (omega arith) agree in (
+        ap (λ (c : Cell). c.next) here ∙ (n ∙ (way ∙ sym (bucket-node bits 4))),
+        subst (TellsBest leaves (EndsAbove leaves v6 4 bits)) (sym (ap (λ (c : Cell). c.row) here))
+            (tells-by leaves (EndsAbove leaves v6 4 first) (EndsAbove leaves v6 4 bits) cell.row
             (λ r (has, l). ((has.0, has.1 ∙ tops r l), l)) (λ r (has, l). ((has.0, has.1 ∙ sym (tops r l)), l)) b),
       )
 
-pub tells-within : (entries : List Entry) (v6 : Bool) (level bits cell : ℕ) → TellsBest entries (EndsAbove entries v6 level bits) cell → cell ≤ length entries
-tells-within entries v6 level bits cell (inl t) = let z = t.0 in omega (arith, z)
-tells-within entries v6 level bits cell (inr (best, is, here, most)) = let l = here.0.0.0 in omega (arith, is, l)
+pub tells-within : (leaves : List Leaf) (v6 : Bool) (level bits cell : ℕ) → TellsBest leaves (EndsAbove leaves v6 level bits) cell → cell ≤ length leaves
+tells-within leaves v6 level bits cell (inl t) = let z = t.0 in omega (arith, z)
+tells-within leaves v6 level bits cell (inr (best, is, here, most)) = let l = here.0.0.0 in omega (arith, is, l)
 
 -- ---- the empty trie
 
-pub empty-trie : (entries : List Entry) (v6 : Bool) (cells : List Cell) → length cells ≡ TABLE + 16 → ((i : ℕ) → next_at cells i ≡ 0) → ((i : ℕ) → row_at cells i ≡ 0) → IsTrie entries v6 0 cells
-empty-trie entries v6 cells len nexts rows = record {
+pub empty-trie : (leaves : List Leaf) (v6 : Bool) (cells : List Cell) → length cells ≡ TABLE + 16 → ((i : ℕ) → next_at cells i ≡ 0) → ((i : ℕ) → row_at cells i ≡ 0) → IsTrie leaves v6 0 cells
+empty-trie leaves v6 cells len nexts rows = record {
   size = omega (arith, len);
   whole = omega (arith, len);
   nexts = λ i some. absurd (some (nexts i));
@@ -158,8 +158,8 @@ empty-trie entries v6 cells len nexts rows = record {
         absurd (s (node-next cells bits l (node-up cells bits l s) ∙ nexts (node cells bits l + digit l bits)))
 
 -- a shortest length for each cell of a closed list
-pub closed-trie : (entries : List Entry) (v6 : Bool) (n : ℕ) (cells : List Cell) → IsTrie entries v6 n cells → IsClosed cells
-closed-trie entries v6 n cells t = record {
+pub closed-trie : (leaves : List Leaf) (v6 : Bool) (n : ℕ) (cells : List Cell) → IsTrie leaves v6 n cells → IsClosed cells
+closed-trie leaves v6 n cells t = record {
   size = λ some. t.size;
   nexts = λ i some. (t.nexts i (λ z. omega (arith, z, some))).2;
 }
@@ -171,26 +171,26 @@ closed-none cells none = subst IsClosed (sym none) (record {
 })
 
 -- a node that was read is shared
-pub next-shared : (entries : List Entry) (v6 : Bool) (n : ℕ) (cells : List Cell) → IsTrie entries v6 n cells → (bits level : ℕ) → bits < 2 ^ 128 → 0 < level → level < 32 → node cells bits level ≢ 0 → Shares entries v6 bits (4 * (level + 1 - 1))
-next-shared entries v6 n cells t bits level small some l there =
+pub next-shared : (leaves : List Leaf) (v6 : Bool) (n : ℕ) (cells : List Cell) → IsTrie leaves v6 n cells → (bits level : ℕ) → bits < 2 ^ 128 → 0 < level → level < 32 → node cells bits level ≢ 0 → Shares leaves v6 bits (4 * (level + 1 - 1))
+next-shared leaves v6 n cells t bits level small some l there =
     let e : level - 1 + 1 ≡ level = omega (arith, some) in
     let f : level - 1 + 1 ≡ level + 1 - 1 = omega (arith, some) in
-    subst (λ k. Shares entries v6 bits (4 * k)) f (t.used bits (level - 1) small (omega (arith, some, l)) (λ z. there (ap (node cells bits) (sym e) ∙ z)))
+    subst (λ k. Shares leaves v6 bits (4 * k)) f (t.used bits (level - 1) small (omega (arith, some, l)) (λ z. there (ap (node cells bits) (sym e) ∙ z)))
 
 -- a closed list with a sound cell
-pub closed-slot : (cells : List Cell) (slot : ℕ) (cell : Cell) → IsClosed cells → TABLE + 16 ≤ length cells → slot < length cells
-    → (cell.next ≢ 0 → (cell.next ≡ TABLE) ⊎ ((i : ℕ) × (cell.next ≡ next_at cells i))) → IsClosed (set cells slot cell)
-closed-slot cells slot cell c size l within =
-    let len = length-set cells slot cell in
+pub closed-bucket : (cells : List Cell) (bucket : ℕ) (cell : Cell) → IsClosed cells → TABLE + 16 ≤ length cells → bucket < length cells
+    → (cell.next ≢ 0 → (cell.next ≡ TABLE) ⊎ ((i : ℕ) × (cell.next ≡ next_at cells i))) → IsClosed (set cells bucket cell)
+closed-bucket cells bucket cell c size l within =
+    let len = length-set cells bucket cell in
     record {
       size = λ some. omega (arith, size, len);
-      nexts = λ i some. elim (cases_eq i slot) [
+      nexts = λ i some. elim (cases_eq i bucket) [
         | inr ne ↦
-            let e = ap (λ (x : Cell). x.next) (get_or-set_other cells slot i cell blank ne) in
+            let e = ap (λ (x : Cell). x.next) (get_or-set_other cells bucket i cell blank ne) in
             let n = c.nexts i (omega (arith, some, e)) in
             omega (arith, n, e, len)
         | inl is ↦
-            let e : next_at (set cells slot cell) i ≡ cell.next = ap (next_at (set cells slot cell)) is ∙ ap (λ (x : Cell). x.next) (get_or-set_same cells slot cell blank l) in
+            let e : next_at (set cells bucket cell) i ≡ cell.next = ap (next_at (set cells bucket cell)) is ∙ ap (λ (x : Cell). x.next) (get_or-set_same cells bucket cell blank l) in
             elim (within (λ z. omega (arith, some, e, z))) [
               | inl root ↦ omega (arith, e, root, size, len)
               | inr one ↦

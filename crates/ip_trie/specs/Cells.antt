@@ -3,7 +3,7 @@ use Rattle.std.specs.Prelude.{◌≡◌, ◌≢◌, ◌+◌, ◌-◌, ◌*◌, �
 use Rattle.std.specs.Prelude.{slice_index_or, if◌then◌else◌}
 use Rattle.dict_value.specs.declared.value.Prefix.{Prefix}
 use Rattle.ip_trie.specs.declared.cells.Cell.{Cell}
-use Rattle.ip_trie.specs.declared.cells.Entry.{Entry}
+use Rattle.ip_trie.specs.declared.cells.Leaf.{Leaf}
 use Rattle.ip_trie.specs.declared.cells.TheConstants.{TABLE}
 
 -- 128 bits, of which an IPv4 address has the first 32
@@ -11,11 +11,11 @@ abbrev pub aligned : Bool → ℕ → ℕ
 aligned v6 bits = if v6 then bits else bits * 2 ^ 96
 
 -- a prefix by the first ones of 128 bits
-abbrev pub entry_of : Prefix → Entry
-entry_of prefix = record { v6 = prefix.v6; bits = aligned prefix.v6 prefix.bits; len = prefix.len }
+abbrev pub leaf_of : Prefix → Leaf
+leaf_of prefix = record { v6 = prefix.v6; bits = aligned prefix.v6 prefix.bits; len = prefix.len }
 
-abbrev pub no_entry : Entry
-no_entry = record { v6 = true; bits = 0; len = 0 }
+abbrev pub no_leaf : Leaf
+no_leaf = record { v6 = true; bits = 0; len = 0 }
 
 abbrev pub blank : Cell
 blank = record { next = 0; row = 0 }
@@ -50,53 +50,53 @@ abbrev pub level_of : ℕ → ℕ
 level_of len = (len - 1) / 4
 
 -- a row is of the family
-abbrev pub entry_at : List Entry → ℕ → Entry
-entry_at entries row = slice_index_or entries row no_entry
+abbrev pub leaf_at : List Leaf → ℕ → Leaf
+leaf_at leaves row = slice_index_or leaves row no_leaf
 
-abbrev pub IsIn : List Entry → Bool → ℕ → Type 0
-IsIn entries v6 row = (row < length entries) × ((entry_at entries row).v6 ≡ v6)
+abbrev pub IsIn : List Leaf → Bool → ℕ → Type 0
+IsIn leaves v6 row = (row < length leaves) × ((leaf_at leaves row).v6 ≡ v6)
 
 -- the row's prefix is of the family and holds the bits
-abbrev pub Has : List Entry → Bool → ℕ → ℕ → Type 0
-Has entries v6 bits row =
-    IsIn entries v6 row × (top (entry_at entries row).len (entry_at entries row).bits ≡ top (entry_at entries row).len bits)
+abbrev pub Has : List Leaf → Bool → ℕ → ℕ → Type 0
+Has leaves v6 bits row =
+    IsIn leaves v6 row × (top (leaf_at leaves row).len (leaf_at leaves row).bits ≡ top (leaf_at leaves row).len bits)
 
 -- a row is no better than another: shorter, or as long and not before it
-abbrev pub IsNoBetter : List Entry → ℕ → ℕ → Type 0
-IsNoBetter entries row best =
-    ((entry_at entries row).len < (entry_at entries best).len)
-    ⊎ (((entry_at entries row).len ≡ (entry_at entries best).len) × (best ≤ row))
+abbrev pub IsNoBetter : List Leaf → ℕ → ℕ → Type 0
+IsNoBetter leaves row best =
+    ((leaf_at leaves row).len < (leaf_at leaves best).len)
+    ⊎ (((leaf_at leaves row).len ≡ (leaf_at leaves best).len) × (best ≤ row))
 
 -- 0 where there is no such row, else one more than the best
-abbrev pub TellsBest : List Entry → (ℕ → Type 0) → ℕ → Type 0
-TellsBest entries P cell =
+abbrev pub TellsBest : List Leaf → (ℕ → Type 0) → ℕ → Type 0
+TellsBest leaves P cell =
     ((cell ≡ 0) × ((row : ℕ) → ¬ (P row)))
-    ⊎ ((best : ℕ) × (cell ≡ best + 1) × P best × ((row : ℕ) → P row → IsNoBetter entries row best))
+    ⊎ ((best : ℕ) × (cell ≡ best + 1) × P best × ((row : ℕ) → P row → IsNoBetter leaves row best))
 
 -- one of the first rows that has the bits and ends at the level
-abbrev pub EndsAt : List Entry → Bool → ℕ → ℕ → ℕ → ℕ → Type 0
-EndsAt entries v6 count level bits row =
-    (row < count) × Has entries v6 bits row × (level_of (entry_at entries row).len ≡ level)
+abbrev pub EndsAt : List Leaf → Bool → ℕ → ℕ → ℕ → ℕ → Type 0
+EndsAt leaves v6 count level bits row =
+    (row < count) × Has leaves v6 bits row × (level_of (leaf_at leaves row).len ≡ level)
 
 -- one that ends above the level
-abbrev pub EndsAbove : List Entry → Bool → ℕ → ℕ → ℕ → Type 0
-EndsAbove entries v6 level bits row = Has entries v6 bits row × (level_of (entry_at entries row).len < level)
+abbrev pub EndsAbove : List Leaf → Bool → ℕ → ℕ → ℕ → Type 0
+EndsAbove leaves v6 level bits row = Has leaves v6 bits row × (level_of (leaf_at leaves row).len < level)
 
 -- some row of the family is longer and has so many bits in common
-abbrev pub Shares : List Entry → Bool → ℕ → ℕ → Type 0
-Shares entries v6 bits count =
-    (row : ℕ) × IsIn entries v6 row × (count ≤ (entry_at entries row).len)
-    × (top count (entry_at entries row).bits ≡ top count bits)
+abbrev pub Shares : List Leaf → Bool → ℕ → ℕ → Type 0
+Shares leaves v6 bits count =
+    (row : ℕ) × IsIn leaves v6 row × (count ≤ (leaf_at leaves row).len)
+    × (top count (leaf_at leaves row).bits ≡ top count bits)
 
--- the entries are prefixes of 128 bits
-pub record AreEntries (entries : List Entry) : Type 0 where
-  pub len : (row : ℕ) → (entry_at entries row).len ≤ 128
-  pub small : (row : ℕ) → (entry_at entries row).bits < 2 ^ 128
-  pub cleared : (row : ℕ) → (entry_at entries row).bits % 2 ^ (128 - (entry_at entries row).len) ≡ 0
+-- the leaves are prefixes of 128 bits
+pub record AreLeaves (leaves : List Leaf) : Type 0 where
+  pub len : (row : ℕ) → (leaf_at leaves row).len ≤ 128
+  pub small : (row : ℕ) → (leaf_at leaves row).bits < 2 ^ 128
+  pub cleared : (row : ℕ) → (leaf_at leaves row).bits % 2 ^ (128 - (leaf_at leaves row).len) ≡ 0
 
 -- The trie of the first rows. Its nodes have 16 cells each; each node is on one way, which a row takes; and each cell on
 -- a way tells the best row that ends there.
-pub record IsTrie (entries : List Entry) (v6 : Bool) (count : ℕ) (cells : List Cell) : Type 0 where
+pub record IsTrie (leaves : List Leaf) (v6 : Bool) (count : ℕ) (cells : List Cell) : Type 0 where
   pub size : TABLE + 16 ≤ length cells
   pub whole : length cells % 16 ≡ 0
   pub nexts : (i : ℕ) → next_at cells i ≢ 0
@@ -104,18 +104,18 @@ pub record IsTrie (entries : List Entry) (v6 : Bool) (count : ℕ) (cells : List
   pub rows : (i : ℕ) → row_at cells i ≤ count
   pub apart : (a b level other : ℕ) → a < 2 ^ 128 → b < 2 ^ 128 → level < 32 → other < 32 → node cells a level ≢ 0
       → node cells a level ≡ node cells b other → (level ≡ other) × (top (4 * level) a ≡ top (4 * level) b)
-  pub paths : (row level : ℕ) → row < count → IsIn entries v6 row → level ≤ level_of (entry_at entries row).len
-      → node cells (entry_at entries row).bits level ≢ 0
+  pub paths : (row level : ℕ) → row < count → IsIn leaves v6 row → level ≤ level_of (leaf_at leaves row).len
+      → node cells (leaf_at leaves row).bits level ≢ 0
   pub used : (bits level : ℕ) → bits < 2 ^ 128 → level < 31 → node cells bits (level + 1) ≢ 0
-      → Shares entries v6 bits (4 * (level + 1))
+      → Shares leaves v6 bits (4 * (level + 1))
   pub told : (bits level : ℕ) → bits < 2 ^ 128 → level < 32 → node cells bits level ≢ 0
-      → TellsBest entries (EndsAt entries v6 count level bits) (row_at cells (node cells bits level + digit level bits))
+      → TellsBest leaves (EndsAt leaves v6 count level bits) (row_at cells (node cells bits level + digit level bits))
 
 -- a cell of the table tells what the first four levels do
-abbrev pub IsSlot : List Entry → Bool → List Cell → ℕ → Type 0
-IsSlot entries v6 cells slot =
-    (bits : ℕ) → bits < 2 ^ 128 → top 16 bits ≡ slot
-    → (next_at cells slot ≡ node cells bits 4) × TellsBest entries (EndsAbove entries v6 4 bits) (row_at cells slot)
+abbrev pub IsBucket : List Leaf → Bool → List Cell → ℕ → Type 0
+IsBucket leaves v6 cells bucket =
+    (bits : ℕ) → bits < 2 ^ 128 → top 16 bits ≡ bucket
+    → (next_at cells bucket ≡ node cells bits 4) × TellsBest leaves (EndsAbove leaves v6 4 bits) (row_at cells bucket)
 
 -- A search is safe where there are cells.
 pub record IsClosed (cells : List Cell) : Type 0 where

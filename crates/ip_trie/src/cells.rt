@@ -1,7 +1,7 @@
-// Cells, entries, and the bits that lead from cell to cell.
+// Cells, leaves, and the bits that lead from cell to cell.
 ghost use Rattle.std.specs.Prelude.{◌≡◌, ◌≢◌, ◌*◌, ◌-◌, ◌/◌, ◌%◌, ◌<◌, ◌≤◌, ◌^◌};
 ghost use Rattle.dict_value.specs.Addresses.{IsPrefix};
-ghost use Rattle.ip_trie.specs.Cells.{digit, entry_of, top};
+ghost use Rattle.ip_trie.specs.Cells.{digit, leaf_of, top};
 
 use dict_value::Prefix;
 
@@ -19,20 +19,20 @@ pub(crate) const BLANK: Cell = Cell { next: 0, row: 0 };
 
 /// A prefix by the first ones of 128 bits, of which an IPv4 address has the first 32.
 #[derive(Clone, Copy, Debug, PartialEq, Eq)]
-pub(crate) struct Entry {
+pub(crate) struct Leaf {
     pub(crate) v6: bool,
     pub(crate) bits: u128,
     pub(crate) len: u8,
 }
 
-/// The entry of a prefix.
-pub(crate) fn entry_of(prefix: Prefix) -> Entry
+/// The leaf of a prefix.
+pub(crate) fn leaf_of(prefix: Prefix) -> Leaf
     requires { IsPrefix prefix }
-    ensures is { result ≡ entry_of prefix }
+    ensures is { result ≡ leaf_of prefix }
     ensures len { result.len ≤ 128 }
     ensures cleared { result.bits % 2 ^ (128 - result.len) ≡ 0 }
 {
-    Entry {
+    Leaf {
         v6: prefix.v6,
         bits: if prefix.v6 {
             prefix.bits
@@ -45,7 +45,7 @@ pub(crate) fn entry_of(prefix: Prefix) -> Entry
 
 /// The cell of the table for some bits.
 #[inline(always)]
-pub(crate) fn slot_of(bits: u128) -> usize
+pub(crate) fn bucket_of(bits: u128) -> usize
     ensures is { result ≡ top 16 bits }
     ensures within { result < 65536 }
 {

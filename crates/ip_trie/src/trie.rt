@@ -4,14 +4,14 @@ ghost use Rattle.std.specs.Prelude.{OnOk, length};
 ghost use Rattle.dict_value.specs.Addresses.{prefix_in};
 ghost use Rattle.dict_value.specs.Memory.{UnlessNoMemory};
 ghost use Rattle.dict_value.specs.declared.value.TheConstants.{MOST_ROWS};
-ghost use Rattle.ip_trie.specs.Cells.{AreEntries, Has, IsClosed, Shares, TellsBest};
+ghost use Rattle.ip_trie.specs.Cells.{AreLeaves, Has, IsClosed, Shares, TellsBest};
 ghost use Rattle.ip_trie.specs.FindByAddress.{FindsByAddress, HasInCommon, IsRefusedFor};
 ghost use Rattle.ip_trie.specs.Kept.{AreCellsOf, AreTriesOf};
-ghost use Rattle.ip_trie.specs.declared.cells.Entry.{Entry};
+ghost use Rattle.ip_trie.specs.declared.cells.Leaf.{Leaf};
 ghost use Rattle.ip_trie.specs.declared.trie.TrieFault.TheVariants as fault;
 
-use crate::build::{cells_of, entries_of};
-use crate::cells::{Cell, better, digit_of, slot_of};
+use crate::build::{cells_of, leaves_of};
+use crate::cells::{Cell, better, bucket_of, digit_of};
 use dict_value::{Address, Bytes, Counted, Counter, ListOf};
 use std::alloc::Global;
 
@@ -37,16 +37,16 @@ pub struct Trie<S> {
 #[inline(always)]
 fn found_in<S: Counter>(cells: &Counted<Cell, S>, bits: u128, steps: &mut S) -> u32
     requires { IsClosed cells.now }
-    ensures found { (entries : List Entry) (v6 : Bool) → AreEntries entries
-        → AreCellsOf entries v6 cells.now → TellsBest entries (Has entries v6 bits) result }
-    ensures steps { (entries : List Entry) (v6 : Bool) → AreEntries entries
-        → AreCellsOf entries v6 cells.now → (count : ℕ) × ((count ≡ 0) ⊎ Shares entries v6 bits count)
+    ensures found { (leaves : List Leaf) (v6 : Bool) → AreLeaves leaves
+        → AreCellsOf leaves v6 cells.now → TellsBest leaves (Has leaves v6 bits) result }
+    ensures steps { (leaves : List Leaf) (v6 : Bool) → AreLeaves leaves
+        → AreCellsOf leaves v6 cells.now → (count : ℕ) × ((count ≡ 0) ⊎ Shares leaves v6 bits count)
         × (S.amount steps.new ≤ S.amount steps.old + (count + 1)) }
 {
     if cells.is_empty() {
         return 0;
     }
-    let mut cell = cells.at(slot_of(bits), steps);
+    let mut cell = cells.at(bucket_of(bits), steps);
     let mut best = cell.row;
     for level in 4..32 {
         if cell.next == 0 {
@@ -66,11 +66,11 @@ impl<S: Counter> Trie<S> {
         ensures read { OnOk result (All (λ text. IsSome (prefix_in text)) texts.now) }
         ensures bad { UnlessNoMemory (Err fault.NoMemory) result (IfErr result (IsRefusedFor texts.now)) }
     {
-        let entries = entries_of(alloc, texts)?;
-        let Ok(v4) = cells_of(alloc, entries.as_slice(), false) else {
+        let leaves = leaves_of(alloc, texts)?;
+        let Ok(v4) = cells_of(alloc, leaves.as_slice(), false) else {
             return Err(TrieFault::NoMemory);
         };
-        let Ok(v6) = cells_of(alloc, entries.as_slice(), true) else {
+        let Ok(v6) = cells_of(alloc, leaves.as_slice(), true) else {
             return Err(TrieFault::NoMemory);
         };
         Ok(Trie {

@@ -5,6 +5,6 @@ use Rattle.ip_trie.proofs.build.cells_of.Given as goal
 
 abbrev pub invariant-loop-row : goal.invariant-loop-row
 invariant-loop-row l = record {
-  trie : IsTrie l.entries l.v6 l.row l.cells.items;
+  trie : IsTrie l.leaves l.v6 l.row l.cells.items;
   room : length l.cells.items ≤ 65552 + 512 * l.row;
 }

@@ -1,15 +1,15 @@
--- The slots so far are filled, and the trie is as it was.
+-- The buckets so far are filled, and the trie is as it was.
 use Rattle.std.proofs.Common.{◌≡◌, Bool, ℕ, ◌<◌, List, length}
-use Rattle.ip_trie.specs.Cells.{AreEntries, IsClosed, IsSlot, IsTrie}
-use Rattle.ip_trie.specs.declared.cells.Entry.{Entry}
+use Rattle.ip_trie.specs.Cells.{AreLeaves, IsClosed, IsBucket, IsTrie}
+use Rattle.ip_trie.specs.declared.cells.Leaf.{Leaf}
 use Rattle.ip_trie.proofs.build.fill_table.Given as goal
 
-abbrev pub invariant-loop-slot : goal.invariant-loop-slot
-invariant-loop-slot l = record {
+abbrev pub invariant-loop-bucket : goal.invariant-loop-bucket
+invariant-loop-bucket l = record {
   len : length l.cells.items ≡ length l.initial.cells.items;
   closed : IsClosed l.cells.items;
-  trie : (entries : List Entry) (v6 : Bool) → AreEntries entries → IsTrie entries v6 (length entries) l.initial.cells.items
-      → IsTrie entries v6 (length entries) l.cells.items;
-  slots : (entries : List Entry) (v6 : Bool) → AreEntries entries → IsTrie entries v6 (length entries) l.initial.cells.items
-      → (slot : ℕ) → slot < l.slot → IsSlot entries v6 l.cells.items slot;
+  trie : (leaves : List Leaf) (v6 : Bool) → AreLeaves leaves → IsTrie leaves v6 (length leaves) l.initial.cells.items
+      → IsTrie leaves v6 (length leaves) l.cells.items;
+  buckets : (leaves : List Leaf) (v6 : Bool) → AreLeaves leaves → IsTrie leaves v6 (length leaves) l.initial.cells.items
+      → (bucket : ℕ) → bucket < l.bucket → IsBucket leaves v6 l.cells.items bucket;
 }

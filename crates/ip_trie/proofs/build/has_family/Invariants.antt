@@ -1,7 +1,7 @@
--- The entries so far are of the other family.
+-- The leaves so far are of the other family.
 use Rattle.std.proofs.Common.{◌≢◌, ◌<◌, ℕ}
-use Rattle.ip_trie.specs.Cells.{entry_at}
+use Rattle.ip_trie.specs.Cells.{leaf_at}
 use Rattle.ip_trie.proofs.build.has_family.Given as goal
 
-abbrev pub invariant-loop-entry : goal.invariant-loop-entry
-invariant-loop-entry l = (row : ℕ) → row < l.entry-index → (entry_at l.entries row).v6 ≢ l.v6
+abbrev pub invariant-loop-leaf : goal.invariant-loop-leaf
+invariant-loop-leaf l = (row : ℕ) → row < l.leaf-index → (leaf_at l.leaves row).v6 ≢ l.v6

@@ -2,7 +2,7 @@
 use Rattle.std.proofs.Common.{◌≡◌, ◌≤◌, ◌%◌, ◌-◌, ◌^◌, ◌<◌, cond, ap, subst}
 use Rattle.dict_value.specs.Addresses.{prefix_width}
 use Rattle.ip_trie.proofs.Bits.{cleared-short}
-use Rattle.ip_trie.proofs.cells.entry_of.Goals as goal
+use Rattle.ip_trie.proofs.cells.leaf_of.Goals as goal
 
 pub returns-else-prefix-clause-cleared : goal.returns-else-prefix-clause-cleared
 returns-else-prefix-clause-cleared c =
