@@ -61,6 +61,20 @@ pub enum LastCause {
     Of(Cause),
 }
 
+/// What a dictionary is told to be in: whether it has a version, whether its last load failed, and whether
+/// one runs.
+#[derive(Clone, Copy, Debug, PartialEq, Eq)]
+pub enum State {
+    NotLoaded,
+    Loaded,
+    /// It has no version, and a load failed.
+    Failed,
+    /// The first load runs.
+    Loading,
+    LoadedAndReloading,
+    FailedAndReloading,
+}
+
 /// The counts, the phase and the last cause of one dictionary.
 #[derive(Clone, Copy, Debug, PartialEq, Eq)]
 pub struct DictCore {

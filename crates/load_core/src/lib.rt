@@ -16,7 +16,7 @@ pub mod world;
 mod world_rows;
 
 pub use caller::{CallerCore, CallerEffect, CallerEvent};
-pub use dictionary::{DictCore, DictEffect, DictEvent, Ending, LastCause, MOST_LOADS, Phase};
+pub use dictionary::{DictCore, DictEffect, DictEvent, Ending, LastCause, MOST_LOADS, Phase, State};
 pub use flat::{TableFault, accept};
 pub use judge::{Judge, RowJudge};
 pub use world::{Ended, World, WorldCaller, WorldDict, WorldEntry, WorldEvent};

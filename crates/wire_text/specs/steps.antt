@@ -1,0 +1,2 @@
+-- What private calls say, beside what callers read.
+pub mod Fields
