@@ -26,7 +26,7 @@ fn first_part(text: &[u8]) -> &[u8]
 }
 
 /// The number of 32 bits that a text writes.
-fn count_in(text: &[u8]) -> Option<u32>
+pub(crate) fn count_in(text: &[u8]) -> Option<u32>
     ensures { MatchOption result ((n : ℕ) → IsDecimal text.now n → ¬ (n < 2 ^ 32))
         (λ n. IsDecimal text.now n × (n < 2 ^ 32)) }
 {

@@ -1,10 +1,19 @@
 // Requests, read from their lines.
-ghost use Rattle.std.specs.Prelude.{◌≡◌, Some, None, MatchOption};
+ghost use Rattle.std.specs.Prelude.{◌≡◌, ◌≢◌, ◌≤◌, ◌∷◌, [], ℕ, List, All, Result, Ok, Err, Some, None, MatchOption, length};
+ghost use Rattle.dict_value.specs.declared.value.Field.TheVariants.{Text};
+ghost use Rattle.wire_text.specs.Requests.{IsRequest, asked_above};
+ghost use Rattle.dict_value.specs.Memory.{UnlessNoMemory};
+ghost use Rattle.wire_text.specs.steps.Asked.{AsksAbove, AsksAfter, AsksBelow, AsksBlock, AsksBy, AsksLookup, IsBare};
+ghost use Rattle.wire_text.specs.steps.Asked.{IsNaming, ReadsBy, RowRead, RowsRead, head_in};
+ghost use Rattle.wire_text.specs.declared.request.Request.{Request};
 ghost use Rattle.wire_text.specs.steps.Fields.{attribute_in, default_in, lookup_in, plain_in, text_first};
 
-use crate::request::Verb;
-use crate::words::Word;
-use dict_value::{Bytes, Field, Fields};
+use crate::decimals::read_decimal;
+use crate::lines::{block_size, count_in};
+use crate::request::{Asked, Request, RequestFault, Verb};
+use crate::words::{Word, read_word};
+use dict_value::{Bytes, Field, Fields, LineFault, ListOf};
+use row_text::read_fields;
 use std::alloc::Global;
 
 /// What a lookup asks for, before its keys are judged.
@@ -84,5 +93,268 @@ fn read_lookup(alloc: Global, word: Word, fields: Fields) -> Option<Lookup>
         Word::Has => plain_lookup(alloc, Verb::Has, fields),
         Word::Call => plain_lookup(alloc, Verb::Call, fields),
         _ => None,
+    }
+}
+
+/// The request for a lookup with at least one key.
+fn one_lookup(alloc: Global, lookup: Option<Lookup>) -> Result<Request, RequestFault>
+    ensures { ReadsBy (AsksLookup lookup) result }
+{
+    let Some(lookup) = lookup else {
+        return Err(RequestFault::Bad);
+    };
+    if lookup.keys.is_empty() {
+        return Err(RequestFault::Bad);
+    }
+    let mut lines = ListOf::new(alloc);
+    if lines.push(lookup.keys).is_err() {
+        return Err(RequestFault::NoMemory);
+    }
+    Ok(Request::Asked(Asked {
+        verb: lookup.verb,
+        name: lookup.name,
+        attribute: lookup.attribute,
+        fallback: lookup.fallback,
+        level: 0,
+        block: false,
+        lines,
+    }))
+}
+
+/// What a hierarchy is asked for, by its keys.
+fn above(
+    alloc: Global,
+    verb: Verb,
+    name: Bytes,
+    keys: Fields,
+    level: u32,
+) -> Result<Request, RequestFault>
+    ensures { ReadsBy (λ r. r ≡ asked_above verb name keys level) result }
+{
+    let mut lines = ListOf::new(alloc);
+    if lines.push(keys).is_err() {
+        return Err(RequestFault::NoMemory);
+    }
+    Ok(Request::Asked(Asked {
+        verb,
+        name,
+        attribute: Bytes::new(alloc),
+        fallback: Field::Null,
+        level,
+        block: false,
+        lines,
+    }))
+}
+
+/// A name, and so many keys of a hierarchy.
+fn read_above(
+    alloc: Global,
+    verb: Verb,
+    count: usize,
+    mut fields: Fields,
+) -> Result<Request, RequestFault>
+    ensures { ReadsBy (AsksAbove verb count fields) result }
+{
+    let Some(name) = take_text(&mut fields) else {
+        return Err(RequestFault::Bad);
+    };
+    if fields.len() != count {
+        return Err(RequestFault::Bad);
+    }
+    above(alloc, verb, name, fields, 0)
+}
+
+/// A text alone.
+fn only_text(mut fields: Fields) -> Option<Bytes>
+    ensures { MatchOption result ((text : List ℕ) → fields ≢ Text text ∷ []) (λ text. fields ≡ Text text ∷ []) }
+{
+    let text = take_text(&mut fields)?;
+    if fields.is_empty() { Some(text) } else { None }
+}
+
+/// A name, a key and a level.
+fn read_below(alloc: Global, mut fields: Fields) -> Result<Request, RequestFault>
+    ensures { ReadsBy (AsksBelow fields) result }
+{
+    let Some(name) = take_text(&mut fields) else {
+        return Err(RequestFault::Bad);
+    };
+    let Some(key) = fields.pop_front() else {
+        return Err(RequestFault::Bad);
+    };
+    let Some(digits) = only_text(fields) else {
+        return Err(RequestFault::Bad);
+    };
+    let Some(level) = count_in(digits.as_slice()) else {
+        return Err(RequestFault::Bad);
+    };
+    let mut keys = ListOf::new(alloc);
+    if keys.push(key).is_err() {
+        return Err(RequestFault::NoMemory);
+    }
+    above(alloc, Verb::Descendants, name, keys, level)
+}
+
+/// A name and a number.
+fn read_after(mut fields: Fields) -> Result<Request, RequestFault>
+    ensures { ReadsBy (AsksAfter fields) result }
+{
+    let Some(name) = take_text(&mut fields) else {
+        return Err(RequestFault::Bad);
+    };
+    let Some(digits) = only_text(fields) else {
+        return Err(RequestFault::Bad);
+    };
+    match read_decimal(digits.as_slice()) {
+        Some(number) => Ok(Request::After(name, number)),
+        None => Err(RequestFault::Bad),
+    }
+}
+
+/// A name alone, which is reloaded, told of or shown.
+fn read_named(word: Word, fields: Fields) -> Result<Request, RequestFault>
+    requires { IsNaming word }
+    ensures { ReadsBy (AsksBy word fields) result }
+{
+    let Some(name) = only_text(fields) else {
+        return Err(RequestFault::Bad);
+    };
+    match word {
+        Word::Reload => Ok(Request::Reload(name)),
+        Word::Status => Ok(Request::Status(name)),
+        _ => Ok(Request::Show(name)),
+    }
+}
+
+/// A word alone.
+fn read_bare(word: Word, fields: &Fields) -> Result<Request, RequestFault>
+    requires { IsBare word }
+    ensures { ReadsBy (AsksBy word fields.now) result }
+{
+    if !fields.is_empty() {
+        return Err(RequestFault::Bad);
+    }
+    match word {
+        Word::Config => Ok(Request::Config),
+        _ => Ok(Request::Quit),
+    }
+}
+
+/// What the fields behind a word ask for, where no lines follow.
+fn read_by(alloc: Global, word: Word, fields: Fields) -> Result<Request, RequestFault>
+    ensures { ReadsBy (AsksBy word fields) result }
+{
+    match word {
+        Word::Get | Word::GetOrDefault | Word::GetOrNull | Word::Has | Word::Call => one_lookup(
+            alloc,
+            read_lookup(alloc, word, fields),
+        ),
+        Word::Hierarchy => read_above(alloc, Verb::Hierarchy, 1, fields),
+        Word::Children => read_above(alloc, Verb::Children, 1, fields),
+        Word::IsIn => read_above(alloc, Verb::IsIn, 2, fields),
+        Word::Descendants => read_below(alloc, fields),
+        Word::Many => Err(RequestFault::Bad),
+        Word::Reload | Word::Status | Word::Show => read_named(word, fields),
+        Word::After => read_after(fields),
+        Word::Config | Word::Quit => read_bare(word, &fields),
+    }
+}
+
+/// The fields of a line.
+fn read_row(alloc: Global, line: &[u8]) -> Result<Fields, RequestFault>
+    requires { length line.now ≤ u32.MAX }
+    ensures { RowRead line.now result }
+{
+    match read_fields(alloc, line) {
+        Ok(fields) => Ok(fields),
+        Err(LineFault::NoMemory) => Err(RequestFault::NoMemory),
+        Err(_) => Err(RequestFault::Bad),
+    }
+}
+
+/// The fields of each line.
+fn read_rows(alloc: Global, lines: &[Bytes]) -> Result<ListOf<Fields>, RequestFault>
+    requires { All (λ line. length line ≤ u32.MAX) lines.now }
+    ensures { RowsRead lines.now result }
+{
+    let mut rows = ListOf::new(alloc);
+    for line in lines {
+        let fields = match read_row(alloc, line.as_slice()) {
+            Ok(fields) => fields,
+            Err(fault) => return Err(fault),
+        };
+        if rows.push(fields).is_err() {
+            return Err(RequestFault::NoMemory);
+        }
+    }
+    Ok(rows)
+}
+
+/// The lookup of a block, by what stands behind the number of its lines.
+fn read_head(alloc: Global, mut fields: Fields) -> Option<Lookup>
+    ensures { result ≡ head_in fields }
+{
+    let text = take_text(&mut fields)?;
+    let word = read_word(text.as_slice())?;
+    read_lookup(alloc, word, fields)
+}
+
+/// A block, by the fields behind its word.
+fn read_block(
+    alloc: Global,
+    line: &[u8],
+    mut fields: Fields,
+    rows: ListOf<Fields>,
+) -> Result<Request, RequestFault>
+    ensures { ReadsBy (AsksBlock line.now fields rows) result }
+{
+    let Some(count) = block_size(line) else {
+        return Err(RequestFault::Bad);
+    };
+    if count as usize != rows.len() || fields.pop_front().is_none() {
+        return Err(RequestFault::Bad);
+    }
+    let Some(lookup) = read_head(alloc, fields) else {
+        return Err(RequestFault::Bad);
+    };
+    if !lookup.keys.is_empty() {
+        return Err(RequestFault::Bad);
+    }
+    Ok(Request::Asked(Asked {
+        verb: lookup.verb,
+        name: lookup.name,
+        attribute: lookup.attribute,
+        fallback: lookup.fallback,
+        level: 0,
+        block: true,
+        lines: rows,
+    }))
+}
+
+/// The request of a line and of the lines that follow it, all without their line feeds.
+pub fn read_request(alloc: Global, line: &[u8], keys: &[Bytes]) -> Result<Request, RequestFault>
+    requires first { length line.now ≤ u32.MAX }
+    requires more { All (λ key. length key ≤ u32.MAX) keys.now }
+    // The request, or that the lines are none; in place of both want of memory may stand.
+    ensures exact { ReadsBy (IsRequest line.now keys.now) result }
+    // There is no other answer to them.
+    ensures only { (r : Request) → IsRequest line.now keys.now r
+        → UnlessNoMemory (Err RequestFault.NoMemory) result (result ≡ Ok r) }
+{
+    let rows = match read_rows(alloc, keys) {
+        Ok(rows) => rows,
+        Err(fault) => return Err(fault),
+    };
+    let mut fields = match read_row(alloc, line) {
+        Ok(fields) => fields,
+        Err(fault) => return Err(fault),
+    };
+    let Some(text) = take_text(&mut fields) else {
+        return Err(RequestFault::Bad);
+    };
+    match read_word(text.as_slice()) {
+        Some(Word::Many) => read_block(alloc, line, fields, rows),
+        Some(word) if rows.is_empty() => read_by(alloc, word, fields),
+        _ => Err(RequestFault::Bad),
     }
 }
