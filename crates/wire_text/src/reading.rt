@@ -4,7 +4,7 @@ ghost use Rattle.dict_value.specs.declared.value.Field.TheVariants.{Text};
 ghost use Rattle.wire_text.specs.Requests.{IsRequest, asked_above};
 ghost use Rattle.dict_value.specs.Memory.{UnlessNoMemory};
 ghost use Rattle.wire_text.specs.steps.Asked.{AsksAbove, AsksAfter, AsksBelow, AsksBlock, AsksBy, AsksLookup, IsBare};
-ghost use Rattle.wire_text.specs.steps.Asked.{IsNaming, ReadsBy, RowRead, RowsRead, head_in};
+ghost use Rattle.wire_text.specs.steps.Asked.{IsNaming, ReadsBy, RowRead, RowsRead, head_in, request_fault};
 ghost use Rattle.wire_text.specs.declared.request.Request.{Request};
 ghost use Rattle.wire_text.specs.steps.Fields.{attribute_in, default_in, lookup_in, plain_in, text_first};
 
@@ -260,6 +260,16 @@ fn read_by(alloc: Global, word: Word, fields: Fields) -> Result<Request, Request
     }
 }
 
+/// What the fault of a line makes of its request.
+fn request_fault(fault: LineFault) -> RequestFault
+    ensures { result ≡ request_fault fault }
+{
+    match fault {
+        LineFault::NoMemory => RequestFault::NoMemory,
+        _ => RequestFault::Bad,
+    }
+}
+
 /// The fields of a line.
 fn read_row(alloc: Global, line: &[u8]) -> Result<Fields, RequestFault>
     requires { length line.now ≤ u32.MAX }
@@ -267,8 +277,7 @@ fn read_row(alloc: Global, line: &[u8]) -> Result<Fields, RequestFault>
 {
     match read_fields(alloc, line) {
         Ok(fields) => Ok(fields),
-        Err(LineFault::NoMemory) => Err(RequestFault::NoMemory),
-        Err(_) => Err(RequestFault::Bad),
+        Err(fault) => Err(request_fault(fault)),
     }
 }
 
@@ -311,9 +320,12 @@ fn read_block(
     let Some(count) = block_size(line) else {
         return Err(RequestFault::Bad);
     };
-    if count as usize != rows.len() || fields.pop_front().is_none() {
+    if count as usize != rows.len() {
         return Err(RequestFault::Bad);
     }
+    let Some(_count) = fields.pop_front() else {
+        return Err(RequestFault::Bad);
+    };
     let Some(lookup) = read_head(alloc, fields) else {
         return Err(RequestFault::Bad);
     };

@@ -2,6 +2,8 @@
 use Rattle.std.specs.Prelude.{◌≡◌, ◌≢◌, ◌<◌, ◌^◌, ℕ, List, [], ◌∷◌, true, false, ⊤, length, Option, Some, None}
 use Rattle.std.specs.Prelude.{Result, Ok, Err, option_and_then}
 use Rattle.std.specs.List.{AllZip}
+use Rattle.dict_value.specs.declared.fault.LineFault.{LineFault}
+use Rattle.dict_value.specs.declared.fault.LineFault.TheVariants as fault
 use Rattle.dict_value.specs.declared.value.Field.{Field}
 use Rattle.dict_value.specs.declared.value.Field.TheVariants.{Text}
 use Rattle.row_text.specs.TabRow.{IsTabRow}
@@ -94,6 +96,11 @@ abbrev pub IsBare : Word → Type 0
 IsBare word.Config = ⊤
 IsBare word.Quit = ⊤
 IsBare _ = ⊥
+
+-- what the fault of a line makes of its request
+abbrev pub request_fault : LineFault → RequestFault
+request_fault fault.NoMemory = NoMemory
+request_fault _ = Bad
 
 -- the fields of a line, which has no others, or that it has none
 abbrev pub RowRead : List ℕ → Result (List Field) RequestFault → Type 0
