@@ -1,6 +1,6 @@
 -- What readings of rows and of their parts come to.
 use Rattle.std.proofs.Common.{◌≡◌, ◌≢◌, ◌<◌, ◌^◌, ◌+◌, ◌++◌, ◌∙◌, ℕ, List, [], ◌∷◌, Option, Some, None, Result, Ok, Err, length, take, suc, zero}
-use Rattle.std.proofs.Common.{slice_get, sym, ap, refl, subst, arith}
+use Rattle.std.proofs.Common.{get_or, sym, ap, refl, subst, arith}
 use Rattle.std.specs.List.{AllZip}
 use Rattle.dict_value.specs.Memory.{UnlessNoMemory}
 use Rattle.dict_value.specs.declared.fault.LineFault.{LineFault}
@@ -29,20 +29,20 @@ row_fault line fault.NotOneRecord only = λ fields row. let e = only (Ok fields)
 
 -- one row more
 pub zip_more : (R : List ℕ → List Field → Type 0) (xs : List (List ℕ)) (ys : List (List Field)) (i : ℕ) (x : List ℕ) (y : List Field)
-    → slice_get xs i ≡ Some x → AllZip R (take i xs) ys → R x y → AllZip R (take (suc i) xs) (ys ++ y ∷ [])
-zip_more R [] ys i x y at zip here = cc
-zip_more R (a ∷ xs) [] zero x y at zip here = let same : a ≡ x = cc in (subst (λ (z : List ℕ). R z y) (sym same) here, tt)
-zip_more R (a ∷ xs) (b ∷ ys) zero x y at zip here = absurd zip
-zip_more R (a ∷ xs) [] (suc i) x y at zip here = absurd zip
-zip_more R (a ∷ xs) (b ∷ ys) (suc i) x y at zip here = (zip.0, zip_more R xs ys i x y at zip.1 here)
+    → i < length xs → x ≡ get_or xs i x → AllZip R (take i xs) ys → R x y → AllZip R (take (suc i) xs) (ys ++ y ∷ [])
+zip_more R [] ys i x y less at zip here = absurd (omega arith)
+zip_more R (a ∷ xs) [] zero x y less at zip here = (subst (λ (z : List ℕ). R z y) at here, tt)
+zip_more R (a ∷ xs) (b ∷ ys) zero x y less at zip here = absurd zip
+zip_more R (a ∷ xs) [] (suc i) x y less at zip here = absurd zip
+zip_more R (a ∷ xs) (b ∷ ys) (suc i) x y less at zip here = (zip.0, zip_more R xs ys i x y (omega arith) at zip.1 here)
 
 -- a line without a row leaves the lines without rows
 pub zip_not : (R : List ℕ → List Field → Type 0) (xs : List (List ℕ)) (ys : List (List Field)) (i : ℕ) (x : List ℕ)
-    → slice_get xs i ≡ Some x → ((y : List Field) → ¬ R x y) → ¬ AllZip R xs ys
-zip_not R [] ys i x at none zip = cc
-zip_not R (a ∷ xs) [] i x at none zip = zip
-zip_not R (a ∷ xs) (b ∷ ys) zero x at none zip = let same : a ≡ x = cc in none b (subst (λ (z : List ℕ). R z b) same zip.0)
-zip_not R (a ∷ xs) (b ∷ ys) (suc i) x at none zip = zip_not R xs ys i x at none zip.1
+    → i < length xs → x ≡ get_or xs i x → ((y : List Field) → ¬ R x y) → ¬ AllZip R xs ys
+zip_not R [] ys i x less at none zip = omega arith
+zip_not R (a ∷ xs) [] i x less at none zip = zip
+zip_not R (a ∷ xs) (b ∷ ys) zero x less at none zip = none b (subst (λ (z : List ℕ). R z b) (sym at) zip.0)
+zip_not R (a ∷ xs) (b ∷ ys) (suc i) x less at none zip = zip_not R xs ys i x (omega arith) at none zip.1
 
 -- a name, a key and a level are one request
 pub below_reads : (fields : List Field) (name digits : List ℕ) (key : Field) (level : ℕ) (answer : Result Request RequestFault)
@@ -54,9 +54,9 @@ below_reads fields name digits key level (Err NoMemory) e number small read = tt
 
 -- a line with a fault leaves the lines without rows
 pub rows_fault : (lines : List (List ℕ)) (i : ℕ) (line : List ℕ) (f : RequestFault)
-    → slice_get lines i ≡ Some line → RowRead line (Err f) → RowsRead lines (Err f)
-rows_fault lines i line Bad at none = λ rows. zip_not IsTabRow lines rows i line at none
-rows_fault lines i line NoMemory at none = tt
+    → i < length lines → line ≡ get_or lines i line → RowRead line (Err f) → RowsRead lines (Err f)
+rows_fault lines i line Bad less at none = λ rows. zip_not IsTabRow lines rows i line less at none
+rows_fault lines i line NoMemory less at none = tt
 
 -- lines have one list of rows
 pub rows_whole : (lines : List (List ℕ)) (rows : List (List Field)) → AllZip IsTabRow lines rows → RowsRead lines (Ok rows)

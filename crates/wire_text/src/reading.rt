@@ -1,7 +1,7 @@
 // Requests, read from their lines.
 ghost use Rattle.std.specs.Prelude.{◌≡◌, ◌≢◌, ◌≤◌, ◌∷◌, [], ℕ, List, All, Result, Ok, Err, Some, None, MatchOption, length};
 ghost use Rattle.dict_value.specs.declared.value.Field.TheVariants.{Text};
-ghost use Rattle.wire_text.specs.Requests.{IsRequest, asked_above};
+ghost use Rattle.wire_text.specs.Requests.{AsksFor, IsRequest, asked_above};
 ghost use Rattle.dict_value.specs.Memory.{UnlessNoMemory};
 ghost use Rattle.wire_text.specs.steps.Asked.{AsksAbove, AsksAfter, AsksBelow, AsksBlock, AsksBy, AsksLookup, IsBare};
 ghost use Rattle.wire_text.specs.steps.Asked.{IsNaming, ReadsBy, RowRead, RowsRead, head_in, request_fault};
@@ -189,10 +189,10 @@ fn read_below(alloc: Global, mut fields: Fields) -> Result<Request, RequestFault
         return Err(RequestFault::Bad);
     };
     let mut keys = ListOf::new(alloc);
-    if keys.push(key).is_err() {
-        return Err(RequestFault::NoMemory);
+    match keys.push(key) {
+        Ok(()) => above(alloc, Verb::Descendants, name, keys, level),
+        Err(_) => Err(RequestFault::NoMemory),
     }
-    above(alloc, Verb::Descendants, name, keys, level)
 }
 
 /// A name and a number.
@@ -292,8 +292,9 @@ fn read_rows(alloc: Global, lines: &[Bytes]) -> Result<ListOf<Fields>, RequestFa
             Ok(fields) => fields,
             Err(fault) => return Err(fault),
         };
-        if rows.push(fields).is_err() {
-            return Err(RequestFault::NoMemory);
+        match rows.push(fields) {
+            Ok(()) => {}
+            Err(_) => return Err(RequestFault::NoMemory),
         }
     }
     Ok(rows)
@@ -343,6 +344,40 @@ fn read_block(
     }))
 }
 
+/// What the fields behind a word ask for, where no lines follow.
+fn read_single(
+    alloc: Global,
+    word: Word,
+    fields: Fields,
+    rows: &ListOf<Fields>,
+) -> Result<Request, RequestFault>
+    ensures { ReadsBy (λ r. (rows.now ≡ []) × AsksBy word fields r) result }
+{
+    if !rows.is_empty() {
+        return Err(RequestFault::Bad);
+    }
+    read_by(alloc, word, fields)
+}
+
+/// What the fields of a request's lines ask for.
+fn read_asked(
+    alloc: Global,
+    line: &[u8],
+    mut fields: Fields,
+    rows: ListOf<Fields>,
+) -> Result<Request, RequestFault>
+    ensures { ReadsBy (AsksFor line.now fields rows) result }
+{
+    let Some(text) = take_text(&mut fields) else {
+        return Err(RequestFault::Bad);
+    };
+    match read_word(text.as_slice()) {
+        Some(Word::Many) => read_block(alloc, line, fields, rows),
+        Some(word) => read_single(alloc, word, fields, &rows),
+        None => Err(RequestFault::Bad),
+    }
+}
+
 /// The request of a line and of the lines that follow it, all without their line feeds.
 pub fn read_request(alloc: Global, line: &[u8], keys: &[Bytes]) -> Result<Request, RequestFault>
     requires first { length line.now ≤ u32.MAX }
@@ -357,16 +392,8 @@ pub fn read_request(alloc: Global, line: &[u8], keys: &[Bytes]) -> Result<Reques
         Ok(rows) => rows,
         Err(fault) => return Err(fault),
     };
-    let mut fields = match read_row(alloc, line) {
-        Ok(fields) => fields,
-        Err(fault) => return Err(fault),
-    };
-    let Some(text) = take_text(&mut fields) else {
-        return Err(RequestFault::Bad);
-    };
-    match read_word(text.as_slice()) {
-        Some(Word::Many) => read_block(alloc, line, fields, rows),
-        Some(word) if rows.is_empty() => read_by(alloc, word, fields),
-        _ => Err(RequestFault::Bad),
+    match read_row(alloc, line) {
+        Ok(fields) => read_asked(alloc, line, fields, rows),
+        Err(fault) => Err(fault),
     }
 }

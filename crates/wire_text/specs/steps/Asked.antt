@@ -1,5 +1,5 @@
 -- What fields ask for, by the word that stands first.
-use Rattle.std.specs.Prelude.{◌≡◌, ◌≢◌, ◌<◌, ◌^◌, ℕ, List, [], ◌∷◌, true, false, ⊤, length, Option, Some, None}
+use Rattle.std.specs.Prelude.{◌≡◌, ◌≢◌, ◌⊎◌, ◌<◌, ◌^◌, ℕ, List, [], ◌∷◌, true, false, ⊤, length, Option, Some, None}
 use Rattle.std.specs.Prelude.{Result, Ok, Err, option_and_then}
 use Rattle.std.specs.List.{AllZip}
 use Rattle.dict_value.specs.declared.fault.LineFault.{LineFault}
@@ -78,6 +78,11 @@ AsksHead (Some l) rows r = (l.keys ≡ []) × (r ≡ asked_of l.verb l.name l.at
 abbrev pub AsksBlock : List ℕ → List Field → List (List Field) → Request → Type 0
 AsksBlock line fields rows r = (count : Field) × (head : List Field)
     × (fields ≡ count ∷ head) × IsBlockLine line (length rows) × AsksHead (head_in head) rows r
+
+-- what the fields behind a word, and the lines that follow, ask for
+abbrev pub AsksBehind : Word → List ℕ → List Field → List (List Field) → Request → Type 0
+AsksBehind w line fields rows r =
+    ((w ≡ word.Many) × AsksBlock line fields rows r) ⊎ ((rows ≡ []) × AsksBy w fields r)
 
 -- the answer is what is asked for, or that nothing is; or no memory was found
 abbrev pub ReadsBy : (Request → Type 0) → Result Request RequestFault → Type 0
