@@ -6,13 +6,14 @@ use Rattle.dict_value.specs.Memory.{UnlessNoMemory}
 use Rattle.dict_value.specs.declared.fault.LineFault.{LineFault}
 use Rattle.dict_value.specs.declared.fault.LineFault.TheVariants as fault
 use Rattle.dict_value.specs.declared.value.Field.{Field}
-use Rattle.dict_value.specs.declared.value.Field.TheVariants.{Text}
+use Rattle.dict_value.specs.declared.value.Field.TheVariants.{Null, Text}
 use Rattle.row_text.proofs.OneReading.{one-row}
 use Rattle.row_text.proofs.Tabled.{same-rows}
 use Rattle.row_text.specs.TabRow.{IsTabRow, TabAnswers}
 use Rattle.wire_text.specs.Numbers.{IsDecimal}
 use Rattle.wire_text.specs.Requests.{asked_above}
 use Rattle.wire_text.specs.steps.Asked.{AsksBelow, ReadsBy, RowRead, RowsRead, request_fault}
+use Rattle.wire_text.specs.steps.Fields.{text_first}
 use Rattle.wire_text.specs.declared.request.Request.{Request}
 use Rattle.wire_text.specs.declared.request.RequestFault.{RequestFault}
 use Rattle.wire_text.specs.declared.request.RequestFault.TheVariants.{Bad, NoMemory}
@@ -44,13 +45,20 @@ zip_not R (a ∷ xs) [] i x less at none zip = zip
 zip_not R (a ∷ xs) (b ∷ ys) zero x less at none zip = none b (subst (λ (z : List ℕ). R z b) (sym at) zip.0)
 zip_not R (a ∷ xs) (b ∷ ys) (suc i) x less at none zip = zip_not R xs ys i x (omega arith) at none zip.1
 
+-- the first field, where it is a text, stands before the others
+pub text_stands : (fields rest : List Field) (text : List ℕ) → text_first fields ≡ Some (text, rest) → fields ≡ Text text ∷ rest
+text_stands [] rest text e = let none : None ≡ Some (text, rest) = e in cc
+text_stands (Null ∷ fields) rest text e = let none : None ≡ Some (text, rest) = e in cc
+text_stands (Text t ∷ fields) rest text e = let some : Some (t, fields) ≡ Some (text, rest) = e in cc
+
 -- a name, a key and a level are one request
-pub below_reads : (fields : List Field) (name digits : List ℕ) (key : Field) (level : ℕ) (answer : Result Request RequestFault)
-    → fields ≡ Text name ∷ key ∷ Text digits ∷ [] → IsDecimal digits level → level < 2 ^ 32
-    → ReadsBy (λ r. r ≡ asked_above verb.Descendants name (key ∷ []) level) answer → ReadsBy (AsksBelow fields) answer
-below_reads fields name digits key level (Ok r) e number small read = (name, key, digits, level, e, number, small, read)
-below_reads fields name digits key level (Err Bad) e number small none = absurd (none _ refl)
-below_reads fields name digits key level (Err NoMemory) e number small read = tt
+pub below_reads : (fields keys : List Field) (name digits : List ℕ) (key : Field) (level : ℕ) (answer : Result Request RequestFault)
+    → fields ≡ Text name ∷ key ∷ Text digits ∷ [] → keys ≡ key ∷ [] → IsDecimal digits level → level < 2 ^ 32
+    → ReadsBy (λ r. r ≡ asked_above verb.Descendants name keys level) answer → ReadsBy (AsksBelow fields) answer
+below_reads fields keys name digits key level (Ok r) e k number small read =
+    (name, key, digits, level, e, number, small, read ∙ ap (λ (f : List Field). asked_above verb.Descendants name f level) k)
+below_reads fields keys name digits key level (Err Bad) e k number small none = absurd (none _ refl)
+below_reads fields keys name digits key level (Err NoMemory) e k number small read = tt
 
 -- a line with a fault leaves the lines without rows
 pub rows_fault : (lines : List (List ℕ)) (i : ℕ) (line : List ℕ) (f : RequestFault)
