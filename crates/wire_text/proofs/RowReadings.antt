@@ -46,10 +46,14 @@ zip_not R (a ∷ xs) (b ∷ ys) zero x less at none zip = none b (subst (λ (z :
 zip_not R (a ∷ xs) (b ∷ ys) (suc i) x less at none zip = zip_not R xs ys i x (omega arith) at none zip.1
 
 -- the first field, where it is a text, stands before the others
+fields_back : Option (List ℕ × List Field) → List Field
+fields_back None = []
+fields_back (Some first) = Text first.0 ∷ first.1
+
 pub text_stands : (fields rest : List Field) (text : List ℕ) → text_first fields ≡ Some (text, rest) → fields ≡ Text text ∷ rest
-text_stands [] rest text e = let none : None ≡ Some (text, rest) = e in cc
-text_stands (Null ∷ fields) rest text e = let none : None ≡ Some (text, rest) = e in cc
-text_stands (Text t ∷ fields) rest text e = let some : Some (t, fields) ≡ Some (text, rest) = e in cc
+text_stands [] rest text e = cc
+text_stands (Null ∷ fields) rest text e = cc
+text_stands (Text t ∷ fields) rest text e = ap fields_back e
 
 -- a name, a key and a level are one request
 pub below_reads : (fields keys : List Field) (name digits : List ℕ) (key : Field) (level : ℕ) (answer : Result Request RequestFault)

@@ -371,10 +371,12 @@ fn read_asked(
     let Some(text) = take_text(&mut fields) else {
         return Err(RequestFault::Bad);
     };
-    match read_word(text.as_slice()) {
-        Some(Word::Many) => read_block(alloc, line, fields, rows),
-        Some(word) => read_single(alloc, word, fields, &rows),
-        None => Err(RequestFault::Bad),
+    let Some(word) = read_word(text.as_slice()) else {
+        return Err(RequestFault::Bad);
+    };
+    match word {
+        Word::Many => read_block(alloc, line, fields, rows),
+        _ => read_single(alloc, word, fields, &rows),
     }
 }
 
