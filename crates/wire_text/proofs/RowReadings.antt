@@ -46,7 +46,7 @@ zip_not R (a ∷ xs) (b ∷ ys) zero x less at none zip = none b (subst (λ (z :
 zip_not R (a ∷ xs) (b ∷ ys) (suc i) x less at none zip = zip_not R xs ys i x (omega arith) at none zip.1
 
 -- the first field, where it is a text, stands before the others
-fields_back : Option (List ℕ × List Field) → List Field
+abbrev fields_back : Option (List ℕ × List Field) → List Field
 fields_back None = []
 fields_back (Some first) = Text first.0 ∷ first.1
 
