@@ -399,3 +399,6 @@ pub fn read_request(alloc: Global, line: &[u8], keys: &[Bytes]) -> Result<Reques
         Err(fault) => Err(fault),
     }
 }
+
+#[cfg(test)]
+mod tests;

@@ -241,3 +241,6 @@ pub fn write_reply(r: &Reply, out: &mut Bytes) -> Result<(), NoMemory>
     }
     written
 }
+
+#[cfg(test)]
+mod tests;
