@@ -155,7 +155,7 @@ lines_answer line more fields rows answer row all =
     carried (AsksFor line fields rows) (IsRequest line more)
     (λ r p. record { fields = fields; head = row.0; rows = rows; lines = all.0; asks = p })
     (λ r q. subst (λ (t : List (List Field)). AsksFor line fields t r) (all.1 q.rows q.lines)
-      (subst (λ (f : List Field). AsksFor line f q.rows r) (row.1 q.fields q.head) q.asks)) answer
+    (subst (λ (f : List Field). AsksFor line f q.rows r) (row.1 q.fields q.head) q.asks)) answer
 
 pub without_rows : (line : List ℕ) (more : List (List ℕ)) (f : RequestFault) → RowsRead more (Err f) → ReadsBy (IsRequest line more) (Err f)
 without_rows line more Bad none = λ r q. none q.rows q.lines

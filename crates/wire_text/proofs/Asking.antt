@@ -94,58 +94,138 @@ lookup_told : (line : List ℕ) {head : List Field} {verb : Verb} {name attribut
     (keys fields : List Field) → fields ≡ head ++ keys → IsLookup head verb name attribute fallback → keys ≢ []
     → AsksWord line fields [] (asked_of verb name attribute fallback false (keys ∷ []))
 lookup_told line keys fields e (IsLookup.get name attribute) some = record {
-  text = codes "dictGet"; rest = Text name ∷ Text attribute ∷ keys; word = word.Get;
-  first = e; read = refl; behind = inr (refl, (some, refl)) }
+  text = codes "dictGet";
+  rest = Text name ∷ Text attribute ∷ keys;
+  word = word.Get;
+  first = e;
+  read = refl;
+  behind = inr (refl, (some, refl));
+}
 lookup_told line keys fields e (IsLookup.get_or_default name attribute fallback) some = record {
-  text = codes "dictGetOrDefault"; rest = Text name ∷ Text attribute ∷ fallback ∷ keys; word = word.GetOrDefault;
-  first = e; read = refl; behind = inr (refl, (some, refl)) }
+  text = codes "dictGetOrDefault";
+  rest = Text name ∷ Text attribute ∷ fallback ∷ keys;
+  word = word.GetOrDefault;
+  first = e;
+  read = refl;
+  behind = inr (refl, (some, refl));
+}
 lookup_told line keys fields e (IsLookup.get_or_null name attribute) some = record {
-  text = codes "dictGetOrNull"; rest = Text name ∷ Text attribute ∷ keys; word = word.GetOrNull;
-  first = e; read = refl; behind = inr (refl, (some, refl)) }
+  text = codes "dictGetOrNull";
+  rest = Text name ∷ Text attribute ∷ keys;
+  word = word.GetOrNull;
+  first = e;
+  read = refl;
+  behind = inr (refl, (some, refl));
+}
 lookup_told line keys fields e (IsLookup.has name) some = record {
-  text = codes "dictHas"; rest = Text name ∷ keys; word = word.Has;
-  first = e; read = refl; behind = inr (refl, (some, refl)) }
+  text = codes "dictHas";
+  rest = Text name ∷ keys;
+  word = word.Has;
+  first = e;
+  read = refl;
+  behind = inr (refl, (some, refl));
+}
 lookup_told line keys fields e (IsLookup.call name) some = record {
-  text = codes "call"; rest = Text name ∷ keys; word = word.Call;
-  first = e; read = refl; behind = inr (refl, (some, refl)) }
+  text = codes "call";
+  rest = Text name ∷ keys;
+  word = word.Call;
+  first = e;
+  read = refl;
+  behind = inr (refl, (some, refl));
+}
 
 -- from the table to the word
 pub told : (line : List ℕ) {fields : List Field} {rows : List (List Field)} {r : Request}
     → AsksFor line fields rows r → AsksWord line fields rows r
 told line (AsksFor.single {keys = keys} {fields = fields} e lookup some) = lookup_told line keys fields e lookup some
 told line (AsksFor.block {head = head} {lines = lines} count block lookup) = record {
-  text = codes "many"; rest = count ∷ head; word = word.Many;
-  first = refl; read = refl; behind = inl (refl, (count, head, refl, block, head_told lines lookup)) }
+  text = codes "many";
+  rest = count ∷ head;
+  word = word.Many;
+  first = refl;
+  read = refl;
+  behind = inl (refl, (count, head, refl, block, head_told lines lookup));
+}
 told line (AsksFor.chain name key) = record {
-  text = codes "dictGetHierarchy"; rest = Text name ∷ key ∷ []; word = word.Hierarchy;
-  first = refl; read = refl; behind = inr (refl, (name, key ∷ [], refl, refl, refl)) }
+  text = codes "dictGetHierarchy";
+  rest = Text name ∷ key ∷ [];
+  word = word.Hierarchy;
+  first = refl;
+  read = refl;
+  behind = inr (refl, (name, key ∷ [], refl, refl, refl));
+}
 told line (AsksFor.children name key) = record {
-  text = codes "dictGetChildren"; rest = Text name ∷ key ∷ []; word = word.Children;
-  first = refl; read = refl; behind = inr (refl, (name, key ∷ [], refl, refl, refl)) }
+  text = codes "dictGetChildren";
+  rest = Text name ∷ key ∷ [];
+  word = word.Children;
+  first = refl;
+  read = refl;
+  behind = inr (refl, (name, key ∷ [], refl, refl, refl));
+}
 told line (AsksFor.is_in name key ancestor) = record {
-  text = codes "dictIsIn"; rest = Text name ∷ key ∷ ancestor ∷ []; word = word.IsIn;
-  first = refl; read = refl; behind = inr (refl, (name, key ∷ ancestor ∷ [], refl, refl, refl)) }
+  text = codes "dictIsIn";
+  rest = Text name ∷ key ∷ ancestor ∷ [];
+  word = word.IsIn;
+  first = refl;
+  read = refl;
+  behind = inr (refl, (name, key ∷ ancestor ∷ [], refl, refl, refl));
+}
 told line (AsksFor.descendants name digits key {level = level} number small) = record {
-  text = codes "dictGetDescendants"; rest = Text name ∷ key ∷ Text digits ∷ []; word = word.Descendants;
-  first = refl; read = refl; behind = inr (refl, (name, key, digits, level, refl, number, small, refl)) }
+  text = codes "dictGetDescendants";
+  rest = Text name ∷ key ∷ Text digits ∷ [];
+  word = word.Descendants;
+  first = refl;
+  read = refl;
+  behind = inr (refl, (name, key, digits, level, refl, number, small, refl));
+}
 told line (AsksFor.reload name) = record {
-  text = codes "reload"; rest = Text name ∷ []; word = word.Reload;
-  first = refl; read = refl; behind = inr (refl, (name, refl, refl)) }
+  text = codes "reload";
+  rest = Text name ∷ [];
+  word = word.Reload;
+  first = refl;
+  read = refl;
+  behind = inr (refl, (name, refl, refl));
+}
 told line (AsksFor.status name) = record {
-  text = codes "status"; rest = Text name ∷ []; word = word.Status;
-  first = refl; read = refl; behind = inr (refl, (name, refl, refl)) }
+  text = codes "status";
+  rest = Text name ∷ [];
+  word = word.Status;
+  first = refl;
+  read = refl;
+  behind = inr (refl, (name, refl, refl));
+}
 told line (AsksFor.show name) = record {
-  text = codes "show"; rest = Text name ∷ []; word = word.Show;
-  first = refl; read = refl; behind = inr (refl, (name, refl, refl)) }
+  text = codes "show";
+  rest = Text name ∷ [];
+  word = word.Show;
+  first = refl;
+  read = refl;
+  behind = inr (refl, (name, refl, refl));
+}
 told line (AsksFor.after name digits {number = n} number) = record {
-  text = codes "after"; rest = Text name ∷ Text digits ∷ []; word = word.After;
-  first = refl; read = refl; behind = inr (refl, (name, digits, n, refl, number, refl)) }
+  text = codes "after";
+  rest = Text name ∷ Text digits ∷ [];
+  word = word.After;
+  first = refl;
+  read = refl;
+  behind = inr (refl, (name, digits, n, refl, number, refl));
+}
 told line AsksFor.config = record {
-  text = codes "reloadConfig"; rest = []; word = word.Config;
-  first = refl; read = refl; behind = inr (refl, (refl, refl)) }
+  text = codes "reloadConfig";
+  rest = [];
+  word = word.Config;
+  first = refl;
+  read = refl;
+  behind = inr (refl, (refl, refl));
+}
 told line AsksFor.quit = record {
-  text = codes "quit"; rest = []; word = word.Quit;
-  first = refl; read = refl; behind = inr (refl, (refl, refl)) }
+  text = codes "quit";
+  rest = [];
+  word = word.Quit;
+  first = refl;
+  read = refl;
+  behind = inr (refl, (refl, refl));
+}
 
 -- what a lookup's fields are
 record Looked (w : Word) (fields : List Field) (l : Lookup) : Type 0 where
@@ -182,8 +262,11 @@ looked_or_default (Text n ∷ Text a ∷ []) l e = let none : None ≡ Some l = 
 looked_or_default (Text n ∷ Text a ∷ fallback ∷ keys) l e =
     let one : lookup_of verb.GetOrDefault n a fallback keys ≡ l = cc in
     subst (λ (l : Lookup). Looked word.GetOrDefault (Text n ∷ Text a ∷ fallback ∷ keys) l) one
-    record { head = Text (codes "dictGetOrDefault") ∷ Text n ∷ Text a ∷ fallback ∷ []; whole = refl;
-      lookup = IsLookup.get_or_default n a fallback }
+    record {
+      head = Text (codes "dictGetOrDefault") ∷ Text n ∷ Text a ∷ fallback ∷ [];
+      whole = refl;
+      lookup = IsLookup.get_or_default n a fallback;
+    }
 
 looked_has : (fields : List Field) (l : Lookup) → plain_in verb.Has fields ≡ Some l → Looked word.Has fields l
 looked_has [] l e = let none : None ≡ Some l = e in cc

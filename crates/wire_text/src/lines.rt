@@ -8,12 +8,6 @@ use crate::decimals::read_decimal;
 use dict_value::letters::TAB;
 use dict_value::split_at_byte;
 
-/// The greatest number of lines of a block.
-pub const MOST_BLOCK_LINES: u32 = 4096;
-
-/// The greatest number of bytes of a block's lines, their line feeds among them.
-pub const MOST_BLOCK_BYTES: u32 = 1_048_576;
-
 /// What stands before the first tab.
 fn first_part(text: &[u8]) -> &[u8]
     ensures before { Lacks TAB result.now }

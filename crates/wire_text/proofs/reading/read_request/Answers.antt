@@ -10,7 +10,7 @@ returns-in-Err c =
 pub returns-in-Ok-read_row : goal.returns-in-Ok-read_row
 returns-in-Ok-read_row c =
     let exact = lines_answer c.args.line.now c.args.keys.now c.in-Ok-read_row.fields c.in-Ok.rows c.read_asked.result
-        c.in-Ok-read_row.ensures c.in-Ok.ensures c.read_asked.ensures in
+    c.in-Ok-read_row.ensures c.in-Ok.ensures c.read_asked.ensures in
     record { exact = exact; only = only_answer c.args.line.now c.args.keys.now c.read_asked.result exact }
 
 pub returns-in-Err-read_row : goal.returns-in-Err-read_row

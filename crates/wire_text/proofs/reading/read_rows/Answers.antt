@@ -14,7 +14,7 @@ pub loop-line-preserved : goal.loop-line-preserved
 loop-line-preserved c =
     let row : IsTabRow c.line-item.result c.in-Ok.fields = subst (λ (x : List ℕ). IsTabRow x c.in-Ok.fields) c.as_slice.ensures c.in-Ok.ensures.0 in
     let more = zip_more IsTabRow c.args.lines.now c.loop-line.rows c.loop-line.line-index c.line-item.result c.in-Ok.fields
-        c.loop-line-test.true c.line-item.is c.loop-line.invariant row in
+    c.loop-line-test.true c.line-item.is c.loop-line.invariant row in
     rw (c.in-Ok-push.ensures.ok, add-one) more
 
 pub returns : goal.returns
