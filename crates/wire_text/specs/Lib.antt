@@ -1,0 +1,5 @@
+pub mod Causes
+pub mod Numbers
+pub mod Replies
+pub mod Requests
+pub mod steps

@@ -1,0 +1,3 @@
+-- What private calls say, beside what callers read.
+pub mod Asked
+pub mod Fields

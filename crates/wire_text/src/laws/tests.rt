@@ -1,0 +1,6 @@
+use crate::one_request;
+
+#[test]
+fn laws() {
+    one_request();
+}

@@ -1,0 +1,29 @@
+//! The line protocol as texts: requests are read from their lines, and replies are written.
+//!
+//! It promises that [`lines_after`] tells from the first line alone how many lines follow it; that
+//! [`read_request`] gives the one request that the table of `specs/Requests.antt` has for the fields of
+//! the lines, and else that they are none; and that [`write_reply`] appends the one text that
+//! `specs/Replies.antt` and `specs/Causes.antt` give a reply, or nothing where memory ran out. Only want
+//! of memory may stand in place of an answer.
+#![tactic(auto)]
+
+mod causes;
+mod decimals;
+pub mod laws;
+mod lines;
+mod pieces;
+mod reading;
+pub mod reply;
+pub mod request;
+mod words;
+mod writing;
+
+pub use laws::one_request;
+pub use lines::lines_after;
+pub use reading::read_request;
+pub use reply::{Line, Mark, Reply, ReplyFault, StatusLine};
+pub use request::{Asked, Request, RequestFault, Verb};
+pub use writing::write_reply;
+
+#[cfg(test)]
+mod shown;
