@@ -9,3 +9,4 @@ pub mod Lists
 pub mod Once
 pub mod Loops
 pub mod Verdicts
+pub mod Choices

@@ -1,13 +1,15 @@
 -- Lists that are read step by step, and things in any order, each kind at most once.
-use Rattle.std.specs.Prelude.{◌≡◌, ◌<◌, ◌==◌, ℕ, zero, suc, Bool, true, false, List, [], ◌∷◌, ◌++◌, length, Option}
+use Rattle.std.specs.Prelude.{◌≡◌, ◌⊎◌, ◌<◌, ◌==◌, ℕ, zero, suc, Bool, true, false, List, [], ◌∷◌, ◌++◌, length, Option}
 use Rattle.std.specs.Prelude.{Some, None, Result, Ok, Err, if◌then◌else◌}
 use Rattle.dict_value.specs.Memory.{UnlessNoMemory}
 use Rattle.ddl_tokens.specs.declared.fault.SyntaxFault.{SyntaxFault}
 use Rattle.ddl_tokens.specs.declared.fault.SyntaxFault.TheVariants.{Twice}
 use Rattle.ddl_tokens.specs.declared.fault.ReadFault.{ReadFault}
 use Rattle.ddl_tokens.specs.declared.fault.ReadFault.TheVariants as fault
+use Rattle.ddl_tokens.specs.declared.letters.LetterCase.TheVariants.{Any}
+use Rattle.ddl_tokens.specs.Letters.{same_letters}
 use Rattle.ddl_tokens.specs.Tokens.{Token}
-use Rattle.ddl_tokens.specs.Reading.{◌>>=◌, Read, passes, is_the_sign, place_ahead, sign_at, unexpected}
+use Rattle.ddl_tokens.specs.Reading.{◌>>=◌, Read, is_keyword, passes, is_the_sign, place_ahead, sign_at, unexpected}
 use Rattle.ddl_tokens.specs.Laws.{Grammar, Stopping, Then}
 
 -- one more was read, or there is none any more
@@ -127,6 +129,28 @@ pub record AddsOnce {K A : Type 0} (kind_number : K → ℕ) (number : A → ℕ
 abbrev pub InAnyOrder : {K A : Type 0} → (K → ℕ) → (A → ℕ) → (K → Grammar A) → List ℕ → Grammar (List A)
 InAnyOrder kind_number number Own wanted items ts =
     Many (AddsOnce kind_number number Own) [] items ts × (has_all number wanted items ≡ true)
+
+-- ---- a choice by keywords
+
+-- the first of these kinds whose keyword the token is
+unfoldable pub chosen : {K : Type 0} → (K → List ℕ) → List K → Token → Option K
+chosen keyword [] t = None
+chosen keyword (k ∷ kinds) t = if is_keyword (keyword k) t then Some k else chosen keyword kinds t
+
+abbrev pub kind_by : {K : Type 0} → (K → List ℕ) → List K → Token → Kind K
+kind_by keyword kinds t = Ok (chosen keyword kinds t)
+
+-- the same of the token in hand
+unfoldable pub chosen_ahead : {K : Type 0} → (K → List ℕ) → List K → List Token → Option K
+chosen_ahead keyword [] ts = None
+chosen_ahead keyword (k ∷ kinds) ts =
+    if passes (is_keyword (keyword k)) ts then Some k else chosen_ahead keyword kinds ts
+
+-- the kind stands in the list, and the keyword of none before it is its own
+abbrev pub StandsApart : {K : Type 0} → (K → List ℕ) → K → List K → Type 0
+StandsApart keyword k [] = ⊥
+StandsApart keyword k (other ∷ kinds) = (other ≡ k)
+    ⊎ ((same_letters Any (keyword k) (keyword other) ≡ false) × StandsApart keyword k kinds)
 
 -- they stop where a token begins none of them
 abbrev pub BeginsNone : {K A : Type 0} → (Token → Kind K) → Stopping (List A)

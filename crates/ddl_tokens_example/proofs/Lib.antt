@@ -1,2 +1,1 @@
-mod KindAhead
 mod OrderLaws

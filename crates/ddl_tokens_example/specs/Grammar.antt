@@ -1,10 +1,9 @@
 -- The grammar of an order, in the words of the laws.
-use Rattle.std.specs.Prelude.{ℕ, List, [], ◌∷◌, codes, Option, Some, None, Result, Ok, if◌then◌else◌, map}
-use Rattle.ddl_tokens.specs.declared.fault.SyntaxFault.{SyntaxFault}
+use Rattle.std.specs.Prelude.{ℕ, List, [], ◌∷◌, codes, Option, map}
 use Rattle.ddl_tokens.specs.Tokens.{Token}
 use Rattle.ddl_tokens.specs.Reading.{is_keyword, is_name, is_number, is_string}
 use Rattle.ddl_tokens.specs.Laws.{Anyhow, IsKeyword, IsSign, IsBytes, Then, Made, Optional, OptionalStops}
-use Rattle.ddl_tokens.specs.Lists.{Separated, InAnyOrder, BeginsNone}
+use Rattle.ddl_tokens.specs.Lists.{BeginsNone, InAnyOrder, Separated, kind_by}
 use Rattle.ddl_tokens_example.specs.declared.order.Item.{Item}
 use Rattle.ddl_tokens_example.specs.declared.order.Clause.{Clause}
 use Rattle.ddl_tokens_example.specs.declared.order.Clause.TheVariants as clause
@@ -30,19 +29,23 @@ IsItem = Then (IsBytes is_name) (λ name. Made (item name) (Optional IsTimes))
 abbrev pub ItemStops : Item → Option Token → Type 0
 ItemStops i next = OptionalStops (is_keyword (codes "TIMES")) Anyhow i.times next
 
+-- the keyword of each kind of clause
+abbrev pub keyword : ClauseKind → List ℕ
+keyword kind.Price = codes "PRICE"
+keyword kind.Note = codes "NOTE"
+keyword kind.Due = codes "DUE"
+
+abbrev pub kinds : List ClauseKind
+kinds = kind.Price ∷ kind.Note ∷ kind.Due ∷ []
+
+abbrev pub IsValue : ClauseKind → Clause → List Token → Type 0
+IsValue kind.Price = Made clause.Price (IsBytes is_number)
+IsValue kind.Note = Made clause.Note (IsBytes is_string)
+IsValue kind.Due = Made clause.Due (IsBytes is_number)
+
 -- PRICE number, NOTE string or DUE number
 abbrev pub IsClause : ClauseKind → Clause → List Token → Type 0
-IsClause kind.Price = Then (IsKeyword (codes "PRICE")) (λ _. Made clause.Price (IsBytes is_number))
-IsClause kind.Note = Then (IsKeyword (codes "NOTE")) (λ _. Made clause.Note (IsBytes is_string))
-IsClause kind.Due = Then (IsKeyword (codes "DUE")) (λ _. Made clause.Due (IsBytes is_number))
-
--- the kind of the clause that a token begins
-abbrev pub clause_kind : Token → Result (Option ClauseKind) SyntaxFault
-clause_kind t =
-    if is_keyword (codes "PRICE") t then Ok (Some kind.Price)
-    else if is_keyword (codes "NOTE") t then Ok (Some kind.Note)
-    else if is_keyword (codes "DUE") t then Ok (Some kind.Due)
-    else Ok None
+IsClause kind = Then (IsKeyword (keyword kind)) (λ _. IsValue kind)
 
 abbrev pub kind_number : ClauseKind → ℕ
 kind_number kind.Price = 0
@@ -73,4 +76,4 @@ IsOrder =
     Made (order name items) AreClauses)))))
 
 abbrev pub OrderStops : Order → Option Token → Type 0
-OrderStops o next = BeginsNone clause_kind o.clauses next
+OrderStops o next = BeginsNone (kind_by keyword kinds) o.clauses next

@@ -3,14 +3,14 @@ use Rattle.std.specs.Prelude.{ℕ, List, [], codes, Option, Some, None, Ok, if�
 use Rattle.ddl_tokens.specs.Tokens.{Token}
 use Rattle.ddl_tokens.specs.Reading.{◌>>=◌, Read, passes, is_keyword, is_name, is_number, is_string, keyword_at}
 use Rattle.ddl_tokens.specs.Reading.{sign_at, bytes_at}
-use Rattle.ddl_tokens.specs.Lists.{Step, next_once, repeat, separated_at}
+use Rattle.ddl_tokens.specs.Lists.{Step, chosen_ahead, kind_by, next_once, repeat, separated_at}
 use Rattle.ddl_tokens_example.specs.declared.order.Item.{Item}
 use Rattle.ddl_tokens_example.specs.declared.order.Clause.{Clause}
 use Rattle.ddl_tokens_example.specs.declared.order.Clause.TheVariants as clause
 use Rattle.ddl_tokens_example.specs.declared.order.ClauseKind.{ClauseKind}
 use Rattle.ddl_tokens_example.specs.declared.order.ClauseKind.TheVariants as kind
 use Rattle.ddl_tokens_example.specs.declared.order.Order.{Order}
-use Rattle.ddl_tokens_example.specs.Grammar.{item, order, clause_kind, kind_number, number, wanted}
+use Rattle.ddl_tokens_example.specs.Grammar.{item, order, keyword, kinds, kind_number, number, wanted}
 
 unfoldable pub times_at : List Token → Read (Option (List ℕ))
 times_at ts =
@@ -39,15 +39,11 @@ clause_at kind.Due ts = do
   Ok (clause.Due value.0, value.1)
 
 -- the kind of the clause that the token in hand begins
-unfoldable pub clause_ahead : List Token → Option ClauseKind
-clause_ahead ts =
-    if passes (is_keyword (codes "PRICE")) ts then Some kind.Price
-    else if passes (is_keyword (codes "NOTE")) ts then Some kind.Note
-    else if passes (is_keyword (codes "DUE")) ts then Some kind.Due
-    else None
+abbrev pub clause_ahead : List Token → Option ClauseKind
+clause_ahead = chosen_ahead keyword kinds
 
 unfoldable pub next_clause : Step (List Clause)
-next_clause before ts = next_once clause_kind clause_at kind_number number wanted before ts
+next_clause before ts = next_once (kind_by keyword kinds) clause_at kind_number number wanted before ts
 
 unfoldable pub order_at : List Token → Read Order
 order_at ts = do

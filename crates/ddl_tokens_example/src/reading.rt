@@ -109,7 +109,7 @@ fn has_clause(wanted: u8, clauses: &[Clause]) -> bool
     false
 }
 
-#[tactic(auto, unfolding(crate::specs::Reading::clause_ahead))]
+#[tactic(auto, unfolding(ddl_tokens::specs::Lists::chosen_ahead))]
 fn kind(r: &Reader<'_>) -> Option<ClauseKind>
     ensures { result ≡ clause_ahead r.now }
 {
@@ -147,7 +147,7 @@ fn clause(alloc: Global, kind: ClauseKind, r: &mut Reader<'_>) -> Result<Clause,
     }
 }
 
-#[tactic(auto, using(crate::proofs::KindAhead::next_clause_is), unfolding(ddl_tokens::specs::Lists::has_all))]
+#[tactic(auto, using(crate::proofs::OrderLaws::next_clause_is), unfolding(ddl_tokens::specs::Lists::has_all))]
 fn next_clause(
     alloc: Global,
     r: &mut Reader<'_>,

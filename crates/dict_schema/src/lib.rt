@@ -14,7 +14,7 @@ mod judging;
 mod keys;
 pub mod layout;
 mod names;
-mod parts;
+pub mod parts;
 mod ranges;
 pub mod shapes;
 #[cfg(test)]
@@ -29,4 +29,5 @@ pub use definition::{
 pub use dict_value::Format;
 pub use fault::{DefFault, Which};
 pub use layout::is_keyed;
+pub use parts::{column_at, is_attribute};
 pub use shapes::{keyed_shape, shape};

@@ -5,7 +5,7 @@ ghost use Rattle.dict_schema.specs.Parts.{is_attribute, is_range_end, is_key};
 use crate::definition::{Column, Definition, RangeOf};
 
 /// The column at a place, where there is one.
-pub(crate) fn column_at(d: &Definition, place: usize) -> Option<&Column>
+pub fn column_at(d: &Definition, place: usize) -> Option<&Column>
     ensures { MatchOption result (slice_get d.now.columns place ≡ None)
         (λ column. slice_get d.now.columns place ≡ Some column.now) }
 {
@@ -34,7 +34,7 @@ fn is_range_end(range: &RangeOf, place: usize) -> bool
 }
 
 /// Whether the column at a place is neither a key nor an end of the range.
-pub(crate) fn is_attribute(d: &Definition, place: usize) -> bool
+pub fn is_attribute(d: &Definition, place: usize) -> bool
     ensures { result ≡ is_attribute d.now place }
 {
     !is_key(d, place) && !is_range_end(&d.range, place)

@@ -65,6 +65,16 @@ impl Bytes {
         }
     }
 
+    /// Makes room for so many further bytes.
+    pub fn reserve(&mut self, more: usize) -> Result<(), NoMemory>
+        ensures { self.new ≡ self.old }
+    {
+        match self.items.reserve(more) {
+            Ok(()) => Ok(()),
+            Err(_) => Err(NoMemory),
+        }
+    }
+
     /// A copy of a piece.
     pub fn copy_of(alloc: Global, piece: &[u8]) -> Result<Bytes, NoMemory>
         ensures { IfOk result (λ b. b ≡ piece.now) }

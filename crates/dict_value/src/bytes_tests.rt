@@ -8,6 +8,7 @@ fn bytes_grow(rt: HostRuntime) -> Result<(), Fail> {
     bytes.push(7)?;
     bytes.extend(&[8, 9])?;
     let zeros = Bytes::zeros(rt.alloc(), 2)?;
+    bytes.reserve(1_000_000)?;
     bytes.extend(zeros.as_slice())?;
     if bytes.len() == 5 {
         bytes.store(1, &[5]);

@@ -56,10 +56,11 @@ pub use laws::{
     addresses_by_grammar, each_field_is_read, one_place_is_found, read_is_typed, written_is_read,
 };
 pub use list::ListOf;
+pub use number_texts::push_number;
 pub use reading::{default_of, read_text, read_value};
 pub use split::split_at_byte;
 pub use value::{
     Address, AttrType, BadValue, ColType, Fetched, FetchedRow, Field, Fields, Format, KeyList,
-    MOST_ROWS, MaybeRow, Prefix, Row, Rows, Value, copy_value, same_value,
+    MOST_ROWS, MaybeRow, Prefix, Row, Value, copy_value, same_value,
 };
 pub use writing::write_value;

@@ -10,8 +10,8 @@ use crate::fault::NoMemory;
 use itoa::{Buffer, Integer};
 use std::net::{Ipv4Addr, Ipv6Addr};
 
-/// Appends a number in decimal digits.
-pub(crate) fn push_number<I: Integer>(out: &mut Bytes, n: I) -> Result<(), NoMemory>
+/// Appends a number in decimal digits; after `NoMemory` the front is as it was.
+pub fn push_number<I: Integer>(out: &mut Bytes, n: I) -> Result<(), NoMemory>
     ensures ok { OnOk result (out.new ≡ out.old ++ I.text n) }
     ensures err { OnErr result (out.new ≡ out.old) }
 {

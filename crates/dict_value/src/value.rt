@@ -140,8 +140,6 @@ pub type Row = ListOf<Value>;
 
 pub type KeyList = ListOf<Value>;
 
-pub type Rows = ListOf<Row>;
-
 pub type Fields = ListOf<Field>;
 
 /// A fetched row, or that there is none.

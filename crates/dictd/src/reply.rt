@@ -6,8 +6,7 @@ ghost use Rattle.dictd.specs.Requests.{version_name, load_reply, text_of_attribu
 ghost use Rattle.dictd.specs.ThinRows.{has_key, is_key, text_at, text_of_cell};
 
 use crate::ending::LoadEnd;
-use dict_value::{Bytes, NoMemory};
-use itoa::Buffer;
+use dict_value::{Bytes, NoMemory, push_number};
 use packed_rows::{Cell, Rows};
 use row_text::write_text;
 
@@ -63,9 +62,8 @@ pub fn first_text(rows: &Rows, key: u64) -> &[u8]
 fn push_version(out: &mut Bytes, number: u64) -> Result<(), NoMemory>
     ensures { OnOk result (out.new ≡ out.old ++ version_name number) }
 {
-    let mut digits = Buffer::new();
-    out.extend(b"v")?;
-    out.extend(digits.format(number).as_bytes())
+    out.push(b'v')?;
+    push_number(out, number)
 }
 
 /// The value of a key in the rows of a version.

@@ -64,3 +64,14 @@ block_size_is line rest part e lacks ends (Some n) some =
       ends = stands.2;
     } in
     (here, (λ m b. let d = digits_are line rest part m e lacks ends b in d.0.value ∙ sym some.0.value))
+
+-- and has one number
+pub block_once : (line : List ℕ) (n m : ℕ) → IsBlockLine line n → IsBlockLine line m → n ≡ m
+block_once line n m a b =
+    let clear : Lacks TAB a.digits = digits-lack TAB a.digits (omega arith) a.number.digits.each in
+    let stops : EndsAtTab (a.digits ++ a.rest) a.digits = elim a.ends [
+      | inl f ↦ inl (ap (λ (t : List ℕ). a.digits ++ t) f ∙ append-nil a.digits)
+      | inr f ↦ inr (f.0, ap (λ (t : List ℕ). a.digits ++ t) f.1)
+    ] in
+    let other = digits_are line (a.digits ++ a.rest) a.digits m a.spelled clear stops b in
+    a.number.value ∙ sym other.0.value

@@ -1,6 +1,8 @@
 -- The one text of a reply.
-use Rattle.std.specs.Prelude.{ℕ, Bool, List, [], ◌++◌, codes, decimal, length, if◌then◌else◌}
+use Rattle.std.specs.Prelude.{◌<◌, ◌^◌, ℕ, Bool, List, [], ◌++◌, codes, decimal, length, if◌then◌else◌}
 use Rattle.std.specs.List.{flat_map}
+use Rattle.dict_value.specs.Split.{Lacks}
+use Rattle.dict_value.specs.declared.letters.TheConstants.{LINE_FEED}
 use Rattle.dict_value.specs.declared.value.Field.TheVariants.{Text}
 use Rattle.load_core.specs.declared.dictionary.LastCause.{LastCause}
 use Rattle.load_core.specs.declared.dictionary.LastCause.TheVariants as last
@@ -30,11 +32,27 @@ mark_text (mark.Version number) = version_text number
 mark_text (mark.Moment moment) = moment_text moment
 mark_text mark.Function = codes "f"
 
+-- the number of a mark has 64 bits
+abbrev pub IsNumbered : Mark → Type 0
+IsNumbered (mark.Version number) = number < 2 ^ 64
+IsNumbered (mark.Moment moment) = moment < 2 ^ 64
+IsNumbered mark.Function = Unit {0}
+
 -- a value of a block, behind the moment of its fetch where the block's mark is one
 abbrev pub block_line : Mark → Line → List ℕ
 block_line (mark.Moment moment) line = moment_text line.moment ++ (codes "\t" ++ (line.text ++ codes "\n"))
 block_line (mark.Version number) line = line.text ++ codes "\n"
 block_line mark.Function line = line.text ++ codes "\n"
+
+-- the text of a line has no line feed, and its moment has 64 bits
+abbrev pub IsWholeLine : Line → Type 0
+IsWholeLine line = Lacks LINE_FEED line.text × (line.moment < 2 ^ 64)
+
+-- what a line tells in a block of this mark: a moment only where the mark is one
+abbrev pub told_line : Mark → Line → Line
+told_line (mark.Moment moment) line = line
+told_line (mark.Version number) line = record { moment = 0; text = line.text }
+told_line mark.Function line = record { moment = 0; text = line.text }
 
 abbrev pub state_name : State → List ℕ
 state_name state.NotLoaded = codes "NOT_LOADED"

@@ -8,6 +8,15 @@ use crate::decimals::read_decimal;
 use dict_value::letters::TAB;
 use dict_value::split_at_byte;
 
+/// The greatest number of lines that may follow the first line of a request.
+pub const MOST_BLOCK_LINES: u32 = 4_096;
+
+/// The greatest number of bytes of the lines that follow the first line of a request, with their line feeds.
+pub const MOST_BLOCK_BYTES: u32 = 1_048_576;
+
+/// The greatest number of requests of a session.
+pub const MOST_REQUESTS: u64 = 4_294_967_296;
+
 /// What stands before the first tab.
 fn first_part(text: &[u8]) -> &[u8]
     ensures before { Lacks TAB result.now }

@@ -2,17 +2,8 @@
 ghost use Rattle.std.specs.Prelude.{◌≡◌, ◌++◌, codes, decimal, length, take, OnErr, OnOk};
 ghost use Rattle.wire_text.specs.Replies.{then_field};
 
-use dict_value::{Bytes, NoMemory};
-use itoa::{Buffer, Integer};
-
-/// Appends a number in decimal digits.
-pub(crate) fn push_number<I: Integer>(out: &mut Bytes, n: I) -> Result<(), NoMemory>
-    ensures ok { OnOk result (out.new ≡ out.old ++ I.text n) }
-    ensures err { OnErr result (take (length out.old) out.new ≡ out.old) }
-{
-    let mut digits = Buffer::new();
-    out.extend(digits.format(n).as_bytes())
-}
+use dict_value::{Bytes, NoMemory, push_number};
+use itoa::Integer;
 
 /// Appends a word and a number behind it.
 pub(crate) fn push_numbered<I: Integer>(out: &mut Bytes, word: &[u8], n: I) -> Result<(), NoMemory>

@@ -1,7 +1,6 @@
 // Requests as tests print them.
-use crate::pieces::push_number;
 use crate::{Asked, Request, RequestFault, Verb};
-use dict_value::{Bytes, Field, NoMemory};
+use dict_value::{Bytes, Field, NoMemory, push_number};
 
 /// What lines ask for, or why they are no request.
 pub fn show(answer: Result<Request, RequestFault>, out: &mut Bytes) -> Result<(), NoMemory> {

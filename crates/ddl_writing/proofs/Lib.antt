@@ -1,0 +1,3 @@
+mod Defaults
+mod Fronts
+mod Listed
