@@ -14,6 +14,8 @@ mod log;
 mod publisher;
 mod rule;
 mod shown;
+#[cfg(test)]
+mod tests;
 mod token;
 mod viewer;
 
