@@ -4,7 +4,7 @@ use Rattle.std.proofs.lemmas.List.{append-nil}
 use Rattle.std.proofs.lemmas.Bool.Decides.{nat_tests}
 use mathlib.Core.List.{IsPrefix}
 use prog.Atomic.{either}
-use Rattle.logbook.specs.Pages.{Cell, cell, keeps, no_nib, step, Moves, Goes}
+use Rattle.logbook.specs.Pages.{Cell, cell, keeps, no_nib, Moves, Goes}
 use Rattle.version_slot.specs.SharedSlots.{Appends, IsSlotList}
 use Rattle.version_slot.specs.Views.{EachHasFact}
 use Rattle.version_slot.proofs.Views.{fact-append, fact-none, prefix-whole}
@@ -21,7 +21,7 @@ module _ {E : Type 0} (allows : List E → E → Type 0) where
 
   pub appends-goes : (list seen : List E) (e : E) (old : ℕ) → length seen ≡ old → allows seen e → EachHasFact allows list → IsPrefix seen list
       → (b : Bool) → (length list == old) ≡ b
-      → Goes (IsSlotList allows) shown moved 0 (seen, (no_nib, None)) (λ n. either (n == old) (old + 1) n) (Appends allows (step 0 old (old + 1) e) (seen, (no_nib, None))) ((length list, true) ∷ (0, true) ∷ []) list
+      → Goes (IsSlotList allows) shown moved 0 (seen, (no_nib, None)) (λ n. either (n == old) (old + 1) n) (λ found after. Appends allows old e seen found after.0) ((length list, true) ∷ (0, true) ∷ []) list
   appends-goes list seen e old counted may fact before true is =
       let here : length list ≡ old = grind (arith, nat_tests) in
       let same : seen ≡ list = prefix-whole seen list before (omega arith) in
@@ -50,7 +50,7 @@ module _ {E : Type 0} (allows : List E → E → Type 0) where
 
   -- whatever the list is, the exchange appends the entry to all that was seen, or finds that the list is longer
   pub appends-moves : (seen : List E) (e : E) (old : ℕ) → length seen ≡ old → allows seen e
-      → Moves (IsSlotList allows) shown moved 0 (seen, (no_nib, None)) (λ n. either (n == old) (old + 1) n) (Appends allows (step 0 old (old + 1) e) (seen, (no_nib, None)))
+      → Moves (IsSlotList allows) shown moved 0 (seen, (no_nib, None)) (λ n. either (n == old) (old + 1) n) (λ found after. Appends allows old e seen found after.0)
   appends-moves seen e old counted may words list rule before away =
-      let Steps : List Cell → Type 0 = λ c. (0 < length c) × ((cell c 0).1 ≡ true) × Goes (IsSlotList allows) shown moved 0 (seen, (no_nib, None)) (λ n. either (n == old) (old + 1) n) (Appends allows (step 0 old (old + 1) e) (seen, (no_nib, None))) c list in
+      let Steps : List Cell → Type 0 = λ c. (0 < length c) × ((cell c 0).1 ≡ true) × Goes (IsSlotList allows) shown moved 0 (seen, (no_nib, None)) (λ n. either (n == old) (old + 1) n) (λ found after. Appends allows old e seen found after.0) c list in
       subst Steps (sym rule.counted) (omega arith, refl, appends-goes list seen e old counted may rule.fact before (length list == old) refl)

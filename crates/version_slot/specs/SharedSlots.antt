@@ -1,10 +1,12 @@
 -- The rule of a slot that threads share: what holds of it at every moment.
--- The slot has one list of entries, which exists in proofs alone. Each step leaves the list or appends one entry that the
--- slot's fact allows after it, so the list only grows, and each list that it had come to is a prefix of it from then on.
--- What its publisher, a viewer or a token has is a list that the slot's list had come to. So of two of those, whosever
--- they are, one is a prefix of the other, and their lengths tell which.
-use Rattle.std.specs.Prelude.{ℕ, ◌≡◌, ◌==◌, true, List, [], ◌∷◌, ◌++◌, length, MatchBool, ⊤}
-use Rattle.logbook.specs.Pages.{Cell, Step, View, Book, Named}
+-- The slot has one list of entries, which exists in proofs alone. Each step leaves the list or appends one entry that
+-- the slot's fact allows after it. So the list only grows, and each list that it had come to stays a prefix of it.
+-- What its publisher, a viewer or a token has is a list that the slot's list had come to, and an entering or a
+-- learning takes a viewer's to a longer such list or leaves it. So of two of them, whosever they are, the longer
+-- begins with the shorter.
+use Rattle.std.specs.Prelude.{ℕ, ◌≡◌, ◌≤◌, ◌==◌, Bool, true, List, [], ◌∷◌, ◌++◌, length, MatchBool, ⊤}
+use mathlib.Core.List.{IsPrefix}
+use Rattle.logbook.specs.Pages.{Book, Named}
 use Rattle.version_slot.specs.Views.{EachHasFact}
 
 -- what names a slot: numbers that no other slot has
@@ -23,28 +25,34 @@ pub record Viewing (E : Type 0) : Type 0 where
   pub refusals : ℕ
 
 module _ {E : Type 0} where
-  -- a publisher, a viewer or a token of a slot without an entry
+  -- a publisher or a token of a slot without an entry, and a viewer
   abbrev pub nothing_yet : SlotName → Reached E
   nothing_yet slot = record { list = []; slot = slot }
 
   abbrev pub no_view_yet : SlotName → Viewing E
   no_view_yet slot = record { list = []; slot = slot; refusals = 0 }
 
-  -- the token is of the slot, and has a list of its own
+  -- the token is of this slot; it has a list of its own
   abbrev pub IsOf : SlotName → Reached E → Type 0
   IsOf slot told = told.slot ≡ slot
 
+  -- of two lists that one list had come to, the longer begins with the shorter
+  pub record AreOfOneList (xs ys : List E) : Type 0 where
+    pub up : length xs ≤ length ys → IsPrefix xs ys
+    pub down : length ys ≤ length xs → IsPrefix ys xs
+
 module _ {E : Type 0} (allows : List E → E → Type 0) where
-  -- The rule: the list's length stands in the first of two words, and each entry has the fact
-  pub record IsSlotList (words : List Cell) (list : List E) : Type 0 where
+  -- The rule of the list, and of the slot's two words, of each of which it is known that it is in use: the first one
+  -- is the list's length
+  pub record IsSlotList (words : List (ℕ × Bool)) (list : List E) : Type 0 where
     pub counted : words ≡ (length list, true) ∷ (0, true) ∷ []
     pub fact : EachHasFact allows list
 
-  -- What an appending tells: it found the list that was seen, and the entry stands behind it; or it found a longer list,
+  -- what an appending tells: the list was the one that had been seen, and the entry stands behind it; or it was longer,
   -- and nothing is appended
-  abbrev pub Appends : Step E → View E ℕ → ℕ → View E ℕ → Type 0
-  Appends asked seen found after =
-      MatchBool (found == asked.old) ((after.0 ≡ seen.0 ++ asked.ask ∷ []) × EachHasFact allows after.0) ⊤
+  abbrev pub Appends : ℕ → E → List E → ℕ → List E → Type 0
+  Appends seen_length e seen found after =
+      MatchBool (found == seen_length) ((after ≡ seen ++ e ∷ []) × EachHasFact allows after) ⊤
 
 -- the first word of a slot
 abbrev pub length_word : SlotName → Named

@@ -44,7 +44,7 @@ pub struct Appending<F> {
 impl<V, F: Fact<V>> Play<V, u64> for Appending<F> {
     ghost use Rattle.version_slot.specs.SharedSlots.{Appends};
 
-    ghost then = { Appends F.allows };
+    ghost then = { λ asked seen found after. Appends F.allows asked.old asked.ask seen.0 found after.0 };
 }
 
 impl<V: Entry, F: Fact<V>> Plain<Held<V>, V, u64> for Appending<F> {

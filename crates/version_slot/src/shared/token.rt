@@ -1,7 +1,6 @@
 // What is known of how far a slot's list had come.
-ghost use Rattle.std.specs.Prelude.{◌≡◌, ◌<◌, ◌≤◌, [], ◌∷◌, ◌++◌, length, IfSome, MatchBool};
-ghost use mathlib.Core.List.{IsPrefix};
-ghost use Rattle.version_slot.specs.SharedSlots.{Reached, length_word, nothing_yet};
+ghost use Rattle.std.specs.Prelude.{◌≡◌, ◌<◌, ◌≤◌, [], ◌∷◌, ◌++◌, ◌↔◌, length, IfSome, IsTrue};
+ghost use Rattle.version_slot.specs.SharedSlots.{AreOfOneList, Reached, length_word, nothing_yet};
 ghost use Rattle.version_slot.specs.Views.{EachHasFact};
 
 use super::log::{Appending, ListRule, Nothing};
@@ -101,10 +100,11 @@ impl<V: Entry, F: Fact<V>> SharedToken<V, F> {
         }
     }
 
-    /// Whether the other's list is at least as long. Then this one's is a prefix of it, and else it is one of this one's.
+    /// Whether the other's list is at least as long.
     pub fn is_within(&self, other: &SharedToken<V, F>) -> bool
         requires { other.now.slot ≡ self.now.slot }
-        ensures { MatchBool result (IsPrefix self.now.list other.now.list) (IsPrefix other.now.list self.now.list) }
+        ensures number { IsTrue result ↔ (length self.now.list ≤ length other.now.list) }
+        ensures one_list { AreOfOneList self.now.list other.now.list }
     {
         let mut both = self.seen.again();
         both.learn(&other.seen);

@@ -1,5 +1,6 @@
 // A viewer's end of a slot that threads share.
-ghost use Rattle.std.specs.Prelude.{◌≡◌, Some, length, List, IfOk, OnErr};
+ghost use Rattle.std.specs.Prelude.{◌≡◌, Some, length, List, IfOk, IsErrOf, OnErr};
+ghost use Rattle.dict_io.specs.Outside.{HasCause, count_up};
 ghost use Rattle.left_right.specs.Sides.{view as seat_view};
 ghost use mathlib.Core.List.{IsPrefix};
 ghost use Rattle.version_slot.specs.Copies.{Knows, which};
@@ -142,7 +143,15 @@ impl<V: Entry, F: Fact<V>> End for SharedViewer<V, F> {
 impl<V: Entry, F: Fact<V>> Viewer for SharedViewer<V, F> {
     ghost refusals = { λ viewer. viewer.refusals };
 
-    fn enter(&mut self) -> Result<Seen<V>, EnterFault> {
+    /// Each entering that the copies refuse is counted once.
+    fn enter(&mut self) -> Result<Seen<V>, EnterFault>
+        ensures view { IsPrefix self.old.list self.new.list }
+        ensures seen { IfOk result (λ s. IsNewestOf self.new.list s) }
+        ensures fact { EachHasFact F.allows self.new.list }
+        ensures shut { HasCause self.old.refusals self.new.refusals (IsErrOf result EnterFault.Shut) }
+        ensures once { IsErrOf result EnterFault.Shut → self.new.refusals ≡ count_up self.old.refusals }
+        ensures slot { self.new.slot ≡ self.old.slot }
+    {
         let seen = match copy_shown(&mut self.reader) {
             Ok(shown) => self.take_in(shown),
             Err(EnterFault::Shut) => {
