@@ -10,6 +10,7 @@ use std::marker::PhantomData;
 use std::sync::Wait;
 
 mod copies;
+pub mod laws;
 mod log;
 mod publisher;
 mod rule;
