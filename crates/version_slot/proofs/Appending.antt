@@ -1,10 +1,11 @@
 -- The exchange that appends an entry keeps the rule of a slot's list.
-use Rattle.std.proofs.Common.{◌≡◌, ℕ, ◌+◌, ◌<◌, ◌==◌, Bool, true, false, List, [], ◌∷◌, ◌++◌, length, refl, ap, sym, subst, arith, inl, length-append, None}
+use Rattle.std.proofs.Common.{◌≡◌, ℕ, ◌+◌, ◌<◌, ◌==◌, Bool, true, false, List, [], ◌∷◌, ◌++◌, length, None}
+use Rattle.std.proofs.Common.{refl, ap, sym, subst, arith, inl, length-append}
 use Rattle.std.proofs.lemmas.List.{append-nil}
 use Rattle.std.proofs.lemmas.Bool.Decides.{nat_tests}
 use mathlib.Core.List.{IsPrefix}
 use prog.Atomic.{either}
-use Rattle.logbook.specs.Pages.{Cell, cell, keeps, no_nib, Moves, Goes}
+use Rattle.logbook.specs.Pages.{Cell, cell, keeps, no_nib, View, Moves, Goes}
 use Rattle.version_slot.specs.SharedSlots.{Appends, IsSlotList}
 use Rattle.version_slot.specs.Views.{EachHasFact}
 use Rattle.version_slot.proofs.Views.{fact-append, fact-none, prefix-whole}
@@ -16,17 +17,37 @@ module _ {E : Type 0} (allows : List E → E → Type 0) where
   abbrev pub moved : List E → List E → ℕ → Type 0
   moved xs ys n = Unit {0}
 
-  pub starts : IsSlotList allows ((0, true) ∷ (0, true) ∷ []) []
+  -- a thread that has seen so much of the list, and has no pen and no answer
+  abbrev pub having-seen : List E → View E ℕ
+  having-seen seen = (seen, (no_nib, None))
+
+  -- the word that is found becomes one more where it is the expected number
+  abbrev pub one-more : ℕ → ℕ → ℕ
+  one-more old found = either (found == old) (old + 1) found
+
+  abbrev pub tells : ℕ → E → List E → ℕ → View E ℕ → Type 0
+  tells old e seen found after = Appends allows old e seen found after.0
+
+  abbrev pub words : List E → List Cell
+  words list = (length list, true) ∷ (0, true) ∷ []
+
+  -- what the exchange does to these words and this list
+  abbrev pub Exchanges : List E → E → ℕ → List Cell → List E → Type 0
+  Exchanges seen e old = Goes (IsSlotList allows) shown moved 0 (having-seen seen) (one-more old) (tells old e seen)
+
+  pub starts : IsSlotList allows (words []) []
   starts = record { counted = refl; fact = fact-none allows }
 
-  pub appends-goes : (list seen : List E) (e : E) (old : ℕ) → length seen ≡ old → allows seen e → EachHasFact allows list → IsPrefix seen list
-      → (b : Bool) → (length list == old) ≡ b
-      → Goes (IsSlotList allows) shown moved 0 (seen, (no_nib, None)) (λ n. either (n == old) (old + 1) n) (λ found after. Appends allows old e seen found after.0) ((length list, true) ∷ (0, true) ∷ []) list
+  pub appends-goes : (list seen : List E) (e : E) (old : ℕ) → length seen ≡ old → allows seen e
+      → EachHasFact allows list → IsPrefix seen list → (b : Bool) → (length list == old) ≡ b
+      → Exchanges seen e old (words list) list
   appends-goes list seen e old counted may fact before true is =
       let here : length list ≡ old = grind (arith, nat_tests) in
       let same : seen ≡ list = prefix-whole seen list before (omega arith) in
-      let longer : EachHasFact allows (list ++ e ∷ []) = fact-append allows list e fact (subst (λ (z : List E). allows z e) same may) in
-      let number : either (length list == old) (old + 1) (length list) ≡ length (list ++ e ∷ []) = rw is (omega (arith, length-append list (e ∷ []))) in (
+      let allowed : allows list e = subst (λ (z : List E). allows z e) same may in
+      let longer : EachHasFact allows (list ++ e ∷ []) = fact-append allows list e fact allowed in
+      let number : one-more old (length list) ≡ length (list ++ e ∷ []) =
+      rw is (omega (arith, length-append list (e ∷ []))) in (
         keeps,
         e ∷ [],
         None,
@@ -38,7 +59,7 @@ module _ {E : Type 0} (allows : List E → E → Type 0) where
   appends-goes list seen e old counted may fact before false is =
       let all : list ++ [] ≡ list = append-nil list in
       let kept : EachHasFact allows (list ++ []) = subst (EachHasFact allows) (sym all) fact in
-      let number : either (length list == old) (old + 1) (length list) ≡ length (list ++ []) = rw is (ap length (sym all)) in (
+      let number : one-more old (length list) ≡ length (list ++ []) = rw is (ap length (sym all)) in (
         keeps,
         [],
         None,
@@ -50,7 +71,9 @@ module _ {E : Type 0} (allows : List E → E → Type 0) where
 
   -- whatever the list is, the exchange appends the entry to all that was seen, or finds that the list is longer
   pub appends-moves : (seen : List E) (e : E) (old : ℕ) → length seen ≡ old → allows seen e
-      → Moves (IsSlotList allows) shown moved 0 (seen, (no_nib, None)) (λ n. either (n == old) (old + 1) n) (λ found after. Appends allows old e seen found after.0)
-  appends-moves seen e old counted may words list rule before away =
-      let Steps : List Cell → Type 0 = λ c. (0 < length c) × ((cell c 0).1 ≡ true) × Goes (IsSlotList allows) shown moved 0 (seen, (no_nib, None)) (λ n. either (n == old) (old + 1) n) (λ found after. Appends allows old e seen found after.0) c list in
-      subst Steps (sym rule.counted) (omega arith, refl, appends-goes list seen e old counted may rule.fact before (length list == old) refl)
+      → Moves (IsSlotList allows) shown moved 0 (having-seen seen) (one-more old) (tells old e seen)
+  appends-moves seen e old counted may cells list rule before away =
+      let Steps : List Cell → Type 0 =
+      λ c. (0 < length c) × ((cell c 0).1 ≡ true) × Exchanges seen e old c list in
+      let goes = appends-goes list seen e old counted may rule.fact before (length list == old) refl in
+      subst Steps (sym rule.counted) (omega arith, refl, goes)

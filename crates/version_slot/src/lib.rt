@@ -19,4 +19,4 @@ pub use fact::Fact;
 pub use held::Entry;
 pub use plain::{PlainSlot, PlainToken};
 pub use seen::{EnterFault, Seen};
-pub use shared::{SharedPublisher, SharedSlot, SharedToken, SharedViewer, SlotCopies};
+pub use shared::{Flip, SharedPublisher, SharedSlot, SharedToken, SharedViewer, Shown, SlotCopies};

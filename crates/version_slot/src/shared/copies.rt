@@ -93,8 +93,8 @@ impl<V: Entry, F: Fact<V>, R: Wait + Drop> Flip for Copies<Shown<V, F>, Shown<V,
     }
 }
 
-/// Makes the copies, for so many readers. The first showing tells the writer of which slot they are, and makes room for later
-/// ones.
+/// Makes the copies, for so many readers. The first showing tells the writer of which slot they are, and makes room for
+/// later ones.
 pub(super) fn open_copies<V: Entry, F: Fact<V>, R: Wait + Drop>(
     rt: R,
     alloc: Global,

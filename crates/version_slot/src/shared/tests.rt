@@ -70,8 +70,8 @@ fn enter_number(viewer: &mut NumberViewer) -> Result<u64, EnterFault> {
     Ok(viewer.enter()?.number())
 }
 
-/// Two viewers enter while a publisher publishes. Then each has learnt the last token: what do they enter next, and what
-/// once the publisher is gone?
+/// Two viewers enter while a publisher publishes. Then each has learnt the last token: what do they enter next, and
+/// what once the publisher is gone?
 fn enter_beside<R: Threads + Wait>(rt: &R, alloc: Global) -> Option<[Result<u64, EnterFault>; 4]> {
     let Ok((publisher, mut viewers)) = SharedSlot::<u64, OwnNumber>::new(rt, alloc, 2) else {
         return None;

@@ -8,4 +8,7 @@ pub open-seen-requires : goal.open-seen-requires
 open-seen-requires g c = (starts g.F.Fact.allows, λ _. tt, c.alone.ensures.1)
 
 pub invariant_of-result : goal.invariant_of-result
-invariant_of-result g c = let none = c.open-seen.ensures.1 in (sym (ap length none), subst (EachHasFact g.F.Fact.allows) (sym none) (fact-none g.F.Fact.allows))
+invariant_of-result g c =
+    let none = c.open-seen.ensures.1 in
+    let allows = g.F.Fact.allows in
+    (sym (ap length none), subst (EachHasFact allows) (sym none) (fact-none allows))
