@@ -1,6 +1,6 @@
 -- The rule of the two copies of what a slot shows its viewers: each viewer that knows of which slot they are knows the
 -- right one. Which list they show, and that views only grow, is the rule of the slot.
-use Rattle.std.specs.Prelude.{◌≡◌, ℕ, List, Option, Some, IfSome}
+use Rattle.std.specs.Prelude.{◌≡◌, ℕ, List, Option, IfSome}
 use mathlib.Core.Option.{some}
 use lib.ListN.{get_elem?}
 use Rattle.version_slot.specs.SharedSlots.{SlotName}

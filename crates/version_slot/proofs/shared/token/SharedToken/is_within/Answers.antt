@@ -1,4 +1,4 @@
-use Rattle.std.proofs.Common.{◌≡◌, ap, subst}
+use Rattle.std.proofs.Common.{ap, subst}
 use mathlib.Core.List.{IsPrefix}
 use Rattle.version_slot.proofs.Views.{prefix-longer}
 use Rattle.version_slot.proofs.shared.token.SharedToken.is_within.Goals as goal
