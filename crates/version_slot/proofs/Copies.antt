@@ -9,29 +9,14 @@ use Rattle.version_slot.specs.SharedSlots.{SlotName}
 use Rattle.version_slot.specs.declared.shared.rule.Which.{Which}
 use Rattle.version_slot.specs.Copies.{which, Knows, AllKnow}
 
--- two slots with one name are one
-pub which-same : (b c : SlotName) → which b ≡ which c → b ≡ c
-which-same b c e i = record {
-  number = (e i).number;
-  log_name = (e i).log_name;
-  cells_name = (e i).cells_name;
-}
-
 pub knows-same : (b : SlotName) (v w : Option Which) → v ≡ w → Knows v b → Knows w b
 knows-same b v w same = subst (λ (z : Option Which). Knows z b) same
-
--- what is known of a slot names it
-pub known-slot : (v : Option Which) (b c : SlotName) → v ≡ Some (which b) → Knows v c → c ≡ b
-known-slot v b c is knows = sym (which-same b c (knows-same c v (Some (which b)) is knows))
 
 -- one more that knows the slot, or none
 pub one-more-knows : (b : SlotName) (views : List (Option Which)) (w : Option Which) → AllKnow b views → Knows w b
     → AllKnow b (views ++ w ∷ [])
 one-more-knows b views w all one seat v at =
     ⊎_elim (all seat v) (λ (same : w ≡ v). knows-same b w v same one) (at_snoc views w v seat at)
-
-pub starts : (b : SlotName) → AllKnow b (None ∷ [])
-starts b = one-more-knows b [] None (λ seat v at. absurd (some-ne-none v (sym at))) tt
 
 pub admits : (b : SlotName) (views : List (Option Which)) → AllKnow b views → AllKnow b (views ++ None ∷ [])
 admits b views all = one-more-knows b views None all tt

@@ -1,9 +1,10 @@
 // Viewers beside a publisher, in threads, and what one thread sees of its own publishings.
-ghost use Rattle.std.specs.Prelude.{◌≡◌, ◌<◌, IfSome};
+ghost use Rattle.std.specs.Prelude.{◌≡◌, ◌<◌, length, IfSome};
 
 use super::*;
 use crate::ends::{LAST_NUMBER, Publisher, Token, Viewer};
 use crate::seen::EnterFault;
+use crate::tests::Anything;
 use std::test::Fail;
 use std::thread::{Threads, join};
 
@@ -122,6 +123,51 @@ fn numbers_never_fall(rt: HostRuntime) -> Result<(), Fail> {
                 Err(EnterFault::Shut)
             ]
         );
+    }
+    Ok(())
+}
+
+/// Publishes a value, lets the viewer learn the token, and enters, by the traits alone: the token's number, and what is
+/// seen.
+fn hand_on<P: Publisher<V = u64>, W: Viewer<V = u64, Told = P::Told>>(
+    publisher: &mut P,
+    viewer: &mut W,
+    alloc: Global,
+    value: u64,
+) -> Option<(u64, u64, Option<u64>)>
+    requires room { length (P.list publisher.old) < LAST_NUMBER }
+    requires fact { P.allows (P.list publisher.old) value }
+    requires one_slot { (p : P) (told : P.Told) → P.slot p ≡ P.slot publisher.old → P.is_of p told
+        → W.is_of viewer.old told }
+    ensures publisher { P.slot publisher.new ≡ P.slot publisher.old }
+    ensures viewer { W.slot viewer.new ≡ W.slot viewer.old }
+{
+    let Ok(mut told) = publisher.publish(alloc, value) else {
+        return None;
+    };
+    viewer.learn(&mut told);
+    let Ok(seen) = viewer.enter() else {
+        return None;
+    };
+    Some((told.number(), seen.number(), seen.version().copied()))
+}
+
+/// Values, and the numbers under which they are published.
+static VALUES: [(u64, u64); 5] = [(70, 1), (20, 2), (90, 3), (90, 4), (10, 5)];
+
+#[test]
+fn what_is_told_is_seen(rt: HostRuntime) -> Result<(), Fail> {
+    let alloc = rt.alloc();
+    let Ok((mut publisher, mut viewers)) = SharedSlot::<u64, Anything>::new(&rt, alloc, 1) else {
+        panic!(rt; "no slot is made");
+    };
+    let Some(mut viewer) = viewers.pop_front() else {
+        panic!(rt; "no viewer is made");
+    };
+    for (value, number) in VALUES {
+        assert!(rt; publisher.number() < LAST_NUMBER);
+        let seen = hand_on(&mut publisher, &mut viewer, alloc, value);
+        assert_eq!(rt; seen, Some((number, number, Some(value))));
     }
     Ok(())
 }
