@@ -1,9 +1,12 @@
 -- The rule of a slot that threads share: what holds of it at every moment.
--- The slot has one list of entries, which exists in proofs alone. Each step leaves the list or appends one entry that
--- the slot's fact allows after it. So the list only grows, and each list that it had come to stays a prefix of it.
--- What its publisher, a viewer or a token has is a list that the slot's list had come to, and an entering or a
--- learning takes a viewer's to a longer such list or leaves it. So of two of them, whosever they are, the longer
--- begins with the shorter.
+-- The slot has one list of entries, which exists in proofs alone, as a log that nothing can be taken from. Each step
+-- leaves the list or appends one entry that the slot's fact allows after it (IsSlotList, Appends). So the list only
+-- grows, and each list that it had come to stays a prefix of it.
+-- What its publisher, a viewer or a token has is a list that the slot's list had come to (Reached). So of two of them,
+-- whosever they are, the longer begins with the shorter (AreOfOneList). Five kinds of step change what they have:
+-- making gives the publisher and each viewer the empty list; publishing takes the publisher's to the list with one
+-- entry more; telling gives a token the list of the one that tells; entering takes a viewer's to what is shown, which
+-- begins with what it had; learning takes it to the token's where that is longer.
 use Rattle.std.specs.Prelude.{ℕ, ◌≡◌, ◌≤◌, ◌==◌, Bool, true, List, [], ◌∷◌, ◌++◌, length, MatchBool, ⊤}
 use mathlib.Core.List.{IsPrefix}
 use Rattle.logbook.specs.Pages.{Book, Named}
