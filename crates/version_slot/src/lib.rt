@@ -10,6 +10,7 @@ pub mod fact;
 mod held;
 pub mod plain;
 pub mod seen;
+pub mod shared;
 #[cfg(test)]
 mod tests;
 
@@ -18,3 +19,4 @@ pub use fact::Fact;
 pub use held::Entry;
 pub use plain::{PlainSlot, PlainToken};
 pub use seen::{EnterFault, Seen};
+pub use shared::{Flip, SharedPublisher, SharedSlot, SharedToken, SharedViewer, Shown, SlotCopies};

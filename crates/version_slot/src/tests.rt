@@ -2,7 +2,7 @@ use super::*;
 use std::test::Fail;
 
 /// Each entry may follow each list.
-struct Anything;
+pub(crate) struct Anything;
 
 impl Fact<u64> for Anything {
     ghost allows = { λ _ _. Unit {0} };

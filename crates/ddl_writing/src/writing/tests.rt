@@ -103,12 +103,10 @@ fn text_of(alloc: Global, d: Definition) -> Result<Bytes, NoMemory> {
 
 /// Whether a piece stands in a text.
 fn has(text: &[u8], piece: &[u8]) -> bool {
-    let mut rest = text;
-    while let [_, behind @ ..] = rest {
-        if rest.starts_with(piece) {
+    for place in 0..text.len() {
+        if text[place..].starts_with(piece) {
             return true;
         }
-        rest = behind;
     }
     false
 }
