@@ -1,0 +1,6 @@
+mod Ahead
+mod NameLaws
+mod StatementLaws
+mod Same
+mod FileLaws
+pub mod Counts

@@ -62,6 +62,14 @@ pub record IsDefined (tokens : List Token) (items : List Item) : Type 0 where
   pub text : Starts IsFile (VerdictStops IsAtEnd) tokens (stands statements)
   pub made : AreItems statements items
 
+-- where the reading of a file has come: whole statements lie behind it, and these items are theirs
+pub record FileSoFar (all : List Token) (items : List Item) (ahead : List Token) : Type 0 where
+  pub statements : List Statement
+  pub front : List Token
+  pub parts : all ≡ front ++ ahead
+  pub before : AreEnded statements front
+  pub made : AreItems statements items
+
 -- ---- faults
 
 -- behind these items a statement has to begin, and has no reading, or it has one and falls
@@ -73,15 +81,9 @@ FallsHere before tokens told =
     × Begins IsStatement (VerdictStops StatementStops) tokens (stands statement) rest × IsRefused before statement told))
 
 -- whole statements that stand, and behind them one that doesn't
-pub record FallsFor (tokens : List Token) (told : DdlFault) : Type 0 where
-  pub statements : List Statement
-  pub items : List Item
-  pub front : List Token
-  pub rest : List Token
-  pub parts : tokens ≡ front ++ rest
-  pub before : AreEnded statements front
-  pub made : AreItems statements items
-  pub here : FallsHere items rest told
+abbrev pub FallsFor : List Token → DdlFault → Type 0
+FallsFor tokens told =
+    (items : List Item) × (ahead : List Token) × FileSoFar tokens items ahead × FallsHere items ahead told
 
 -- A fault of the grammar is the first one: it has the least place where a token can't stand in a file, or a statement of
 -- the file falls for it. Any other fault is that of a statement that has a reading.
@@ -112,7 +114,13 @@ HasSoundTypes statement = HaveSoundTypes statement.written
 
 -- what a step over a file's next statement leaves: nothing where the text ends, else the statement's item more
 abbrev pub GoesOn : List Item → List Token → List Item → List Token → Bool → Type 0
-GoesOn before tokens items rest more =
-    ((is_at_end (first tokens) ≡ true) × (more ≡ false) × (items ≡ before) × (rest ≡ tokens))
+GoesOn before tokens items rest follows =
+    ((is_at_end (first tokens) ≡ true) × (follows ≡ false) × (items ≡ before) × (rest ≡ tokens))
     ⊎ ((statement : Statement) × Begins IsStatement (VerdictStops StatementStops) tokens (stands statement) rest
-    × (more ≡ statement.ended) × IsTaken before statement × (items ≡ before ++ item_of statement ∷ []))
+    × (follows ≡ statement.ended) × IsTaken before statement × (items ≡ before ++ item_of statement ∷ []))
+
+-- the whole of a file is read: statements with their semicolons, and then the end, or the last statement without one
+abbrev pub IsReadWhole : List Token → List Item → Type 0
+IsReadWhole all items =
+    (before : List Item) × (ahead : List Token) × (rest : List Token) × FileSoFar all before ahead
+    × GoesOn before ahead items rest false

@@ -189,10 +189,20 @@ abbrev pub IsTakenItem : List Item → Item → Type 0
 IsTakenItem before item =
     AreClear (rules_of item) × (is_named (number_of_item item) (name_of item) before ≡ false)
 
--- the first fault of its table is told, else a repeated name, by the number of the statement from 1
+-- the first fault of its table, with the number that is written
+abbrev pub IsFaultOf : Item → Sizes → ℕ → DdlFault → Type 0
+IsFaultOf item sizes place told =
+    (why : DefFault) × IsFirstFault (rules_of item) why × (told ≡ fault.Def place (with_written sizes why))
+
+-- such a fault of a count, which is told as it is
+abbrev pub IsCountAbove : DictionaryText → DefFault → Type 0
+IsCountAbove text why =
+    IsFirstFault (table (definition_of text)) why × ((sizes : Sizes) → with_written sizes why ≡ why)
+
+-- it is told, else a repeated name, by the number of the statement from 1
 abbrev pub IsRefusedItem : List Item → Item → Sizes → ℕ → DdlFault → Type 0
 IsRefusedItem before item sizes place told =
-    ((why : DefFault) × IsFirstFault (rules_of item) why × (told ≡ fault.Def place (with_written sizes why)))
+    IsFaultOf item sizes place told
     ⊎ (AreClear (rules_of item) × (is_named (number_of_item item) (name_of item) before ≡ true)
     × (told ≡ fault.Def place (definition.DuplicateName (length before + 1))))
 

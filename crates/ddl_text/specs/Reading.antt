@@ -1,5 +1,6 @@
 -- How a statement is read, up to the first fault.
 use Rattle.std.specs.Prelude.{ℕ, Bool, true, false, List, codes, drop, Option, Some, None, Ok, if◌then◌else◌}
+use Rattle.dict_schema.specs.declared.definition.Column.{Column}
 use Rattle.ddl_tokens.specs.Tokens.{Token}
 use Rattle.ddl_tokens.specs.Reading.{◌>>=◌, Read, bytes_ahead, bytes_at, is_keyword, is_name, is_the_sign, keyword_at}
 use Rattle.ddl_tokens.specs.Reading.{kind_ahead, of_kind, passes, place_ahead, sign_at, unexpected}
@@ -75,6 +76,14 @@ ending_at ts =
     if passes (is_the_sign 59) ts then sign_at 59 ts >>= (λ s. Ok (true, s.1))
     else text_end_at ts >>= (λ e. Ok (false, e.1))
 
+-- what stands behind the columns of a dictionary
+unfoldable pub behind_columns_at : ℕ → WrittenName → List Column → List Token → Read Statement
+behind_columns_at place name columns ts = do
+  keys ← key_at ts
+  parts ← dictionary_clauses_at keys.1
+  ended ← ending_at parts.1
+  Ok (dictionary place name columns keys.0 parts.0 ended.0, ended.1)
+
 unfoldable pub dictionary_at : List Token → Read Statement
 dictionary_at ts = do
   place ← begin_at (codes "CREATE") ts
@@ -82,10 +91,7 @@ dictionary_at ts = do
   word ← keyword_at (codes "DICTIONARY") replace.1
   name ← named_at word.1
   columns ← column_list_at name.1
-  keys ← key_at columns.1
-  parts ← dictionary_clauses_at keys.1
-  ended ← ending_at parts.1
-  Ok (dictionary place.0 name.0 columns.0 keys.0 parts.0 ended.0, ended.1)
+  behind_columns_at place.0 name.0 columns.0 columns.1
 
 unfoldable pub function_at : List Token → Read Statement
 function_at ts = do

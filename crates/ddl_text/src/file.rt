@@ -1,7 +1,7 @@
 // A definitions file, statement by statement.
 ghost use Rattle.std.specs.Prelude.{◌≡◌, ◌<◌, ◌≤◌, length, All, IfOk, IsTrue, OnOk};
 ghost use Rattle.dict_schema.specs.Sound.{IsSoundItem};
-ghost use Rattle.ddl_text.specs.Files.{FallsFor, FallsHere, GoesOn, IfFault, IsDefined};
+ghost use Rattle.ddl_text.specs.Files.{FallsFor, FallsHere, GoesOn, IfFault, IsReadWhole};
 
 use crate::fault::FileFault;
 use crate::judging::take;
@@ -31,7 +31,7 @@ fn next_item(alloc: Global, r: &mut Reader<'_>, items: &mut ListOf<Item>) -> Res
 
 /// The items of a whole text.
 pub(crate) fn read_items(alloc: Global, r: &mut Reader<'_>) -> Result<ListOf<Item>, FileFault>
-    ensures value { IfOk result (IsDefined r.old) }
+    ensures value { IfOk result (IsReadWhole r.old) }
     ensures refused { IfFault result (FallsFor r.old) }
     ensures sound { IfOk result (All IsSoundItem) }
 {

@@ -1,10 +1,12 @@
 // The items that statements make.
-ghost use Rattle.std.specs.Prelude.{◌≡◌, ◌≤◌, ◌++◌, length, map, IfOk};
+ghost use Rattle.std.specs.Prelude.{◌≡◌, ◌≤◌, ◌++◌, ◌==◌, length, map, IfOk};
+ghost use Rattle.std.specs.List.{list_any};
+ghost use Rattle.dict_schema.specs.Parts.{is_range_end};
 ghost use Rattle.ddl_text.specs.Items.{definition_of, function_of, is_misfit, joined, key_places, place_from, range_of};
 ghost use Rattle.ddl_text.specs.Items.{same_name, settled, settled_from, is_set_apart, place_of_column};
 
 use crate::statement::{DictionaryText, FunctionText, WrittenName};
-use ddl_clauses::RangeNames;
+use ddl_clauses::{DictionaryParts, FunctionParts, RangeNames};
 use dict_schema::{Column, Definition, FunctionDef, RangeOf};
 use dict_value::{AttrType, Bytes, ColType, ListOf, NoMemory, Value, default_of};
 use std::alloc::Global;
@@ -104,13 +106,17 @@ fn settled(alloc: Global, column: Column) -> Column
     }
 }
 
-/// Whether a key or an end of the range stands at a place.
-fn is_set_apart(keys: &[u8], range: &RangeOf, place: usize) -> bool
-    ensures { result ≡ is_set_apart keys.now range.now place }
+/// Whether a key stands at a place.
+fn is_key(keys: &[u8], place: usize) -> bool
+    ensures { result ≡ list_any (λ key. key == place) keys.now }
 {
-    if keys.iter().any(|key| usize::from(*key) == place) {
-        return true;
-    }
+    keys.iter().any(|key| usize::from(*key) == place)
+}
+
+/// Whether an end of the range stands at a place.
+fn is_range_end(range: &RangeOf, place: usize) -> bool
+    ensures { result ≡ is_range_end range.now place }
+{
     match range {
         RangeOf::None => false,
         RangeOf::Columns { start, end } => {
@@ -119,7 +125,15 @@ fn is_set_apart(keys: &[u8], range: &RangeOf, place: usize) -> bool
     }
 }
 
+/// Whether a key or an end of the range stands at a place.
+fn is_set_apart(keys: &[u8], range: &RangeOf, place: usize) -> bool
+    ensures { result ≡ is_set_apart keys.now range.now place }
+{
+    is_key(keys, place) || is_range_end(range, place)
+}
+
 /// The columns of a definition, from those that are written.
+#[tactic(auto, unfolding(crate::specs::Items::settled_from))]
 fn settled_columns(
     alloc: Global,
     keys: &[u8],
@@ -155,18 +169,27 @@ pub(crate) fn definition_of(alloc: Global, text: DictionaryText) -> Result<Defin
     } = text;
     let name = joined(name)?;
     let keys = key_places(alloc, columns.as_slice(), keys.as_slice())?;
-    let range = range_of(columns.as_slice(), &parts.range);
+    let DictionaryParts {
+        source,
+        layout,
+        lifetime,
+        range,
+        max_output,
+        comment,
+        ..
+    } = parts;
+    let range = range_of(columns.as_slice(), &range);
     let columns = settled_columns(alloc, keys.as_slice(), &range, columns)?;
     Ok(Definition {
         name,
         columns,
         keys,
-        source: parts.source,
-        layout: parts.layout,
-        lifetime: parts.lifetime,
+        source,
+        layout,
+        lifetime,
         range,
-        max_output: parts.max_output,
-        comment: parts.comment,
+        max_output,
+        comment,
     })
 }
 
@@ -174,11 +197,22 @@ pub(crate) fn definition_of(alloc: Global, text: DictionaryText) -> Result<Defin
 pub(crate) fn function_of(text: FunctionText) -> FunctionDef
     ensures { result ≡ function_of text }
 {
+    let FunctionText {
+        name,
+        arguments,
+        returns,
+        parts,
+    } = text;
+    let FunctionParts {
+        source,
+        max_output,
+        ..
+    } = parts;
     FunctionDef {
-        name: text.name,
-        args: text.arguments,
-        returns: text.returns,
-        source: text.parts.source,
-        max_output: text.parts.max_output,
+        name,
+        args: arguments,
+        returns,
+        source,
+        max_output,
     }
 }

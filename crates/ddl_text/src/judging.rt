@@ -1,10 +1,12 @@
 // Whether what a statement makes can stand behind the items before it.
-ghost use Rattle.std.specs.Prelude.{◌≡◌, ◌≤◌, ◌+◌, length, IfOk, MatchResult};
+ghost use Rattle.std.specs.Prelude.{◌≡◌, ◌≤◌, ◌+◌, length, IfOk, MatchOption, MatchResult};
 ghost use Rattle.dict_schema.specs.Judging.{IsJudged};
 ghost use Rattle.dict_schema.specs.Sound.{IsSoundItem};
-ghost use Rattle.ddl_text.specs.Items.{count_of, is_full, is_named, item_of, name_of, number_of_item, number_of_written};
+ghost use Rattle.ddl_text.specs.Items.{IsCountAbove, IsFaultOf, count_of, is_named, item_of, item_written, name_of};
+ghost use Rattle.ddl_text.specs.Items.{number_of_item, number_of_written};
 ghost use Rattle.ddl_text.specs.Items.{rules_of, sizes_of, with_written, IsTaken, IsRefused, IsTakenItem, IsRefusedItem};
 ghost use Rattle.ddl_text.specs.Files.{HasSoundTypes, IfFault};
+ghost use Rattle.ddl_text.specs.declared.statement.Written.TheVariants as written;
 
 use crate::fault::{DdlFault, FileFault};
 use crate::items::{definition_of, function_of, same_name};
@@ -121,7 +123,11 @@ fn judge(before: &[Item], item: &Item, sizes: &Sizes, place: u32) -> Result<(), 
 }
 
 /// The count of a dictionary's columns or keys that is above the limit. So none of them is looked up by name.
-fn count_above(text: &DictionaryText) -> Option<DefFault> {
+#[tactic(auto, using(crate::proofs::Counts::many_columns, crate::proofs::Counts::many_keys))]
+fn count_above(text: &DictionaryText) -> Option<DefFault>
+    ensures { MatchOption result ((length text.now.columns ≤ 64) × (length text.now.keys ≤ 16))
+        (IsCountAbove text.now) }
+{
     if text.columns.len() > 64 {
         return Some(DefFault::Limit(Which::Columns, text.columns.len() as u64));
     }
@@ -131,14 +137,22 @@ fn count_above(text: &DictionaryText) -> Option<DefFault> {
     None
 }
 
-fn dictionary_item(alloc: Global, text: DictionaryText, place: u32) -> Result<Item, FileFault> {
+/// The item of a dictionary's statement, unless one of its counts is above the limit.
+fn dictionary_item(alloc: Global, text: DictionaryText, place: u32) -> Result<Item, FileFault>
+    ensures made { IfOk result (λ item. item ≡ item_written (written.Dictionary text)) }
+    ensures refused { IfFault result (IsFaultOf (item_written (written.Dictionary text)) text.parts.sizes place) }
+{
     if let Some(fault) = count_above(&text) {
         return Err(FileFault::Fault(DdlFault::Def(place, fault)));
     }
     Ok(Item::Dictionary(definition_of(alloc, text)?))
 }
 
-fn item_of(alloc: Global, written: Written, place: u32) -> Result<Item, FileFault> {
+/// The item of a statement.
+fn item_written(alloc: Global, written: Written, place: u32) -> Result<Item, FileFault>
+    ensures made { IfOk result (λ item. item ≡ item_written written) }
+    ensures refused { IfFault result (IsFaultOf (item_written written) (sizes_of written) place) }
+{
     match written {
         Written::Dictionary(text) => dictionary_item(alloc, text, place),
         Written::Function(text) => Ok(Item::Function(function_of(text))),
@@ -160,7 +174,7 @@ pub(crate) fn take(alloc: Global, before: &[Item], statement: Statement) -> Resu
         return Err(FileFault::Fault(DdlFault::TooMany(place)));
     }
     let sizes = sizes_of(&written);
-    let item = item_of(alloc, written, place)?;
+    let item = item_written(alloc, written, place)?;
     judge(before, &item, &sizes, place)?;
     Ok(item)
 }

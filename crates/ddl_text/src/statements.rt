@@ -1,14 +1,17 @@
 // The statements, read.
-ghost use Rattle.std.specs.Prelude.{◌≡◌, ◌<◌, ◌≤◌, length, IfOk, OnOk};
+ghost use Rattle.std.specs.Prelude.{◌≡◌, ◌<◌, ◌≤◌, length, All, IfOk, OnOk};
+ghost use Rattle.dict_schema.specs.Sound.{IsSoundType};
 ghost use Rattle.ddl_tokens.specs.Reading.{Gives};
 ghost use Rattle.ddl_text.specs.Files.{HasSoundTypes};
-ghost use Rattle.ddl_text.specs.Reading.{begin_at, dictionary_at, ending_at, function_at, or_replace_at, statement_at};
+ghost use Rattle.ddl_text.specs.Reading.{begin_at, behind_columns_at, dictionary_at, ending_at, function_at, or_replace_at, statement_at};
 
 use crate::names::named;
-use crate::statement::{DictionaryText, FunctionText, Statement, Written};
+use crate::statement::{DictionaryText, FunctionText, Statement, Written, WrittenName};
 use ddl_clauses::{dictionary_clauses, function_clauses};
 use ddl_columns::{read_arguments, read_columns, read_key, read_type};
 use ddl_tokens::{ReadFault, Reader, TokenKind};
+use dict_schema::Column;
+use dict_value::ListOf;
 use std::alloc::Global;
 
 /// A keyword, and the place of its first byte.
@@ -52,17 +55,19 @@ fn ending(r: &mut Reader<'_>) -> Result<bool, ReadFault>
     Ok(false)
 }
 
-#[tactic(auto, unfolding(crate::specs::Reading::dictionary_at))]
-fn dictionary(alloc: Global, r: &mut Reader<'_>) -> Result<Statement, ReadFault>
-    ensures value { Gives (λ statement. statement) result r.new (dictionary_at r.old) }
-    ensures sound { IfOk result HasSoundTypes }
+/// What stands behind the columns of a dictionary.
+#[tactic(auto, unfolding(crate::specs::Reading::behind_columns_at))]
+fn behind_columns(
+    alloc: Global,
+    place: u32,
+    name: WrittenName,
+    columns: ListOf<Column>,
+    r: &mut Reader<'_>,
+) -> Result<Statement, ReadFault>
+    ensures value { Gives (λ statement. statement) result r.new (behind_columns_at place name columns r.old) }
+    ensures sound { All (λ column. IsSoundType column.ty) columns → IfOk result HasSoundTypes }
     ensures shorter { OnOk result (length r.new < length r.old) }
 {
-    let place = begin(r, b"CREATE")?;
-    or_replace(r)?;
-    r.keyword(b"DICTIONARY")?;
-    let name = named(alloc, r)?;
-    let columns = read_columns(alloc, r)?;
     let keys = read_key(alloc, r)?;
     let parts = dictionary_clauses(alloc, r)?;
     let ended = ending(r)?;
@@ -77,6 +82,20 @@ fn dictionary(alloc: Global, r: &mut Reader<'_>) -> Result<Statement, ReadFault>
         written: Written::Dictionary(text),
         ended,
     })
+}
+
+#[tactic(auto, unfolding(crate::specs::Reading::dictionary_at))]
+fn dictionary(alloc: Global, r: &mut Reader<'_>) -> Result<Statement, ReadFault>
+    ensures value { Gives (λ statement. statement) result r.new (dictionary_at r.old) }
+    ensures sound { IfOk result HasSoundTypes }
+    ensures shorter { OnOk result (length r.new < length r.old) }
+{
+    let place = begin(r, b"CREATE")?;
+    or_replace(r)?;
+    r.keyword(b"DICTIONARY")?;
+    let name = named(alloc, r)?;
+    let columns = read_columns(alloc, r)?;
+    behind_columns(alloc, place, name, columns, r)
 }
 
 #[tactic(auto, unfolding(crate::specs::Reading::function_at))]
