@@ -49,10 +49,10 @@ end_no_sign s t e = cond-false (is_signed t.kind) _ _ (no_sign t.kind e) where
 pub keyword_no_end : (word : List ℕ) (t : Token) → is_keyword word t ≡ true → is_end t.kind ≡ false
 keyword_no_end word t h = elim (cases_Bool (is_end t.kind)) [ inr f ↦ f | inl f ↦ absurd (let k = sym h ∙ end_no_keyword word t f in cc) ]
 
-pub end-ahead : (ts : List Token) → is_end (kind_ahead ts) ≡ is_at_end (first ts)
+pub end_ahead : (ts : List Token) → is_end (kind_ahead ts) ≡ is_at_end (first ts)
 unfolding kind_ahead
-end-ahead [] = refl
-end-ahead (t ∷ ts) = refl
+end_ahead [] = refl
+end_ahead (t ∷ ts) = refl
 
 -- ---- nothing, where a token follows that passes a test
 

@@ -50,8 +50,10 @@ few_clear n m e le f h = elim h.1 [ inl lt ↦ omega arith | inr gt ↦ omega (a
 
 pub many_keys : (text : DictionaryText) → length text.columns ≤ 64 → 16 < length text.keys → IsCountAbove text (definition.Limit which.Keys (length text.keys))
 many_keys text le lt = (
-  inr (few_clear (length (definition_of text).columns) (length text.columns) (columns-length text) le,
-  inl (ap (λ (n : ℕ). definition.Limit which.Keys n) (sym (keys-length text)), inr (subst (λ (n : ℕ). 16 < n) (sym (keys-length text)) lt))),
+  inr (
+    few_clear (length (definition_of text).columns) (length text.columns) (columns-length text) le,
+    inl (ap (λ (n : ℕ). definition.Limit which.Keys n) (sym (keys-length text)), inr (subst (λ (n : ℕ). 16 < n) (sym (keys-length text)) lt)),
+  ),
   λ sizes. refl,
 )
 
@@ -96,7 +98,7 @@ Few items = (count_of 0 items ≤ 128) × (count_of 1 items ≤ 128)
 counts : (items : List Item) → count_of 0 items + count_of 1 items ≡ length items
 unfolding count_of
 counts [] = refl
-counts (item.Dictionary d ∷ others) = ap suc (counts others)
+counts (item.Dictionary d ∷ others) = let e = counts others in omega (arith, e)
 counts (item.Function f ∷ others) = let e = counts others in omega (arith, e)
 
 count_then : (kind : ℕ) (before : List Item) (one : Item) → count_of kind (before ++ one ∷ []) ≡ cond (number_of_item one == kind) (suc (count_of kind before)) (count_of kind before)

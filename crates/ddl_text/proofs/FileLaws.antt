@@ -11,6 +11,7 @@ use Rattle.ddl_tokens.specs.Reading.{◌>>=◌, Read}
 use Rattle.ddl_tokens.specs.Laws.{Begins, IsLeast, Lawful, Starts, first}
 use Rattle.ddl_tokens.specs.Verdicts.{Verdict, stands, falls, verdict_map, told, IsLeastOrFalls, LawfulVerdict, VerdictStops}
 use Rattle.ddl_tokens.proofs.Laws.{first_front, ok_is}
+use Rattle.ddl_tokens.proofs.Verdicts.{read_as}
 use Rattle.ddl_text.specs.declared.fault.DdlFault.{DdlFault}
 use Rattle.ddl_text.specs.declared.statement.Statement.{Statement}
 use Rattle.ddl_text.specs.Faults.{of_syntax}
@@ -22,10 +23,10 @@ use Rattle.ddl_text.proofs.StatementLaws.{no_end_first, statement_begins, statem
 
 -- ---- one statement
 
-law : LawfulVerdict (λ _. Unit {0}) statement_at IsStatement StatementStops
+abbrev law : LawfulVerdict (λ _. Unit {0}) statement_at IsStatement StatementStops
 law = statement_law
 
-reads : List Token → Read (Verdict Statement)
+abbrev reads : List Token → Read (Verdict Statement)
 reads = law.judged
 
 -- a statement that ends is read whatever follows
@@ -74,10 +75,10 @@ same_stops statement (falls e) o s = tt
 
 view : (v : Verdict (List Statement)) (own tail all : List Token) → IsFile v own → all ≡ own ++ tail → VerdictStops IsAtEnd v (first tail) → View tail all v
 view v own tail all empty e s = at_end (ap (λ (us : List Token). is_at_end (first us)) e ∙ s) refl
-view v own tail all (last {statement = statement} no h) e s =
+view v own tail all (last {statement = statement} begun h) e s =
     goes (stands statement) tail (begins_before_end (stands statement) own tail all e h)
-    (ap reads e ∙ law.law.only (stands statement) own tail h (last_stops statement (first tail) no s))
-    (subst (λ (b : Bool). Onward statement tail tail v b) (sym no) refl)
+    (ap reads e ∙ law.law.only (stands statement) own tail h (last_stops statement (first tail) begun s))
+    (subst (λ (b : Bool). Onward statement tail tail v b) (sym begun) refl)
 view v own tail all (fallen {e = f} h) e s =
     goes (falls f) tail (begins_before_end (falls f) own tail all e h) (ap reads e ∙ law.law.only (falls f) own tail h tt) refl
 view v own tail all (more {statement = statement} {others = others} {own = one} {rest = rest} parts ended m is) e s =
@@ -137,7 +138,7 @@ ahead_of : (statements : List Statement) (front ahead all own tail : List Token)
 ahead_of statements front ahead all own tail v none p h q s = record { others = v; own = own; fits = h; is = behind_none v; parts = sym p ∙ q; stops = s }
 ahead_of statements front ahead all own tail v (more {statement = statement} {others = others} {own = one} {rest = rest} e x m) p h q s = elim (view v own tail all h q s) [
   | at_end at is ↦ absurd (let k = sym at ∙ begins_before_end (stands statement) one (rest ++ ahead) all split x.1 in cc)
-  | goes w us no read then ↦
+  | goes w us begun read then ↦
       let same = same_read all w (stands statement) us (rest ++ ahead) read (ap reads split ∙ reads_ended statement one (rest ++ ahead) x) in
       let g : GoesBehind statement tail us v = subst (λ (b : Bool). Onward statement tail us v b) x.0 (subst (λ (y : Verdict Statement). Then tail us v y) same.0 then) in
       let a = ahead_of others rest ahead us g.own tail g.others m same.1 g.fits g.parts g.stops in
@@ -210,12 +211,15 @@ whole_defined all items (before, ahead, rest, f, inl g) = record {
 }
 whole_defined all items (before, ahead, rest, f, inr g) = record {
   statements = f.statements ++ g.0 ∷ [];
-  text = (rest, record {
-    own = f.front ++ g.1.own;
-    parts = f.parts ∙ ap (λ (us : List Token). f.front ++ us) g.1.parts ∙ sym (append_assoc f.front g.1.own rest);
-    fits = file_behind f.statements f.front (stands (g.0 ∷ [])) g.1.own f.before (last (sym g.2) g.1.fits);
-    stops = subst (λ (b : Bool). EndsText b (first rest)) (sym g.2) g.1.stops;
-  });
+  text = (
+    rest,
+    record {
+      own = f.front ++ g.1.own;
+      parts = f.parts ∙ ap (λ (us : List Token). f.front ++ us) g.1.parts ∙ sym (append_assoc f.front g.1.own rest);
+      fits = file_behind f.statements f.front (stands (g.0 ∷ [])) g.1.own f.before (last (sym g.2) g.1.fits);
+      stops = subst (λ (b : Bool). EndsText b (first rest)) (sym g.2) g.1.stops;
+    },
+  );
   made = subst (λ (xs : List Item). AreItems (f.statements ++ g.0 ∷ []) xs) (sym g.4) (items_then [] before f.statements g.0 f.made g.3);
 }
 
@@ -242,13 +246,13 @@ whole_only all items others (before, ahead, rest, f, inl g) d =
       | at_end at is ↦
           let same = stands_same d.statements f.statements a.others a.is is in
           g.2 ∙ items_once [] before others f.statements f.made (subst (λ (ss : List Statement). AreItems ss others) same d.made)
-      | goes x us no read then ↦ absurd (let k = sym g.0 ∙ no in cc)
+      | goes x us begun read then ↦ absurd (let k = sym g.0 ∙ begun in cc)
     ]
 whole_only all items others (before, ahead, rest, f, inr g) d =
     let a = ahead_in all ahead before others f d in
     elim (view a.others a.own d.text.0 ahead a.fits a.parts a.stops) [
       | at_end at is ↦ absurd (let k = sym at ∙ begins_before_end (stands g.0) g.1.own rest ahead g.1.parts g.1.fits in cc)
-      | goes x us no read then ↦
+      | goes x us begun read then ↦
           let same = same_read ahead x (stands g.0) us rest read (ap reads g.1.parts ∙ law.law.only (stands g.0) g.1.own rest g.1.fits g.1.stops) in
           let one : a.others ≡ stands (g.0 ∷ []) = subst (λ (b : Bool). Onward g.0 d.text.0 us a.others b) (sym g.2) (subst (λ (y : Verdict Statement). Then d.text.0 us a.others y) same.0 then) in
           let all_of = stands_behind d.statements f.statements (g.0 ∷ []) a.others a.is one in
@@ -290,9 +294,9 @@ no_syntax (syntax.Unsupported n) before statement (inr r) = elim r.1 [ inl f ↦
 -- what a reading tells that fails: the grammar's fault, or that of a value that falls
 told_fault : (r : Read (Verdict Statement)) (e : SyntaxFault) → (r >>= λ x. told x.0 x.1) ≡ Err e → (r ≡ Err e) ⊎ ((rest : List Token) × (r ≡ Ok (falls e, rest)))
 told_fault (Ok x) e h = value x.0 x.1 h where
-  value : (v : Verdict Statement) (us : List Token) → told v us ≡ Err e → (Ok {E = SyntaxFault} (v, us) ≡ Err e) ⊎ ((rest : List Token) × (Ok {E = SyntaxFault} (v, us) ≡ Ok (falls e, rest)))
+  value : (v : Verdict Statement) (us : List Token) → told v us ≡ Err e → (read_as v us ≡ Err e) ⊎ ((rest : List Token) × (read_as v us ≡ read_as (falls e) rest))
   value (stands b) us k = absurd cc
-  value (falls f) us k = let same : f ≡ e = cc in inr (us, ap (λ (g : SyntaxFault). Ok (falls g, us)) same)
+  value (falls f) us k = let same : f ≡ e = cc in inr (us, ap (λ (g : SyntaxFault). read_as (falls g) us) same)
 told_fault (Err f) e h = inl (let same : f ≡ e = cc in ap (λ (g : SyntaxFault). Err g) same)
 
 reading_fails : (ts : List Token) (e : SyntaxFault) → statement_at ts ≡ Err e → (reads ts ≡ Err e) ⊎ ((rest : List Token) × (reads ts ≡ Ok (falls e, rest)))
@@ -318,10 +322,10 @@ refused_ahead before items statements all_of statement e tail rest v refused mad
   at (falls f) k = fallen_ahead all_of f v statements is k
 
 pub falls_or_defined : (all : List Token) (e : DdlFault) (items : List Item) → FallsFor all e → IsDefined all items → ⊥
-falls_or_defined all e items (before, ahead, f, no, inl r) d =
+falls_or_defined all e items (before, ahead, f, (begun, inl r)) d =
     let a = ahead_in all ahead before items f d in
     elim (view a.others a.own d.text.0 ahead a.fits a.parts a.stops) [
-      | at_end at is ↦ let k = sym at ∙ no in cc
+      | at_end at is ↦ let k = sym at ∙ begun in cc
       | goes x us more_of read then ↦ elim (reading_fails ahead r.0 r.1) [
         | inl k ↦ let m = sym k ∙ read in cc
         | inr k ↦
@@ -329,10 +333,10 @@ falls_or_defined all e items (before, ahead, f, no, inl r) d =
             fallen_ahead d.statements r.0 a.others f.statements a.is (subst (λ (y : Verdict Statement). Then d.text.0 us a.others y) same.0 then)
       ]
     ]
-falls_or_defined all e items (before, ahead, f, no, inr r) d =
+falls_or_defined all e items (before, ahead, f, (begun, inr r)) d =
     let a = ahead_in all ahead before items f d in
     elim (view a.others a.own d.text.0 ahead a.fits a.parts a.stops) [
-      | at_end at is ↦ let k = sym at ∙ no in cc
+      | at_end at is ↦ let k = sym at ∙ begun in cc
       | goes x us more_of read then ↦
           let same = same_read ahead x (stands r.0) us r.1 read (ap reads r.2.parts ∙ law.law.only (stands r.0) r.2.own r.1 r.2.fits r.2.stops) in
           refused_ahead before items f.statements d.statements r.0 e d.text.0 us a.others r.3 f.made d.made a.is r.0.ended (subst (λ (y : Verdict Statement). Then d.text.0 us a.others y) same.0 then)
@@ -350,7 +354,7 @@ alone (stands statement) own h = at statement.ended refl where
 
 -- a fault of the statement ahead is the file's
 least_ahead : (all ahead : List Token) (before : List Item) (e : SyntaxFault) → FileSoFar all before ahead → is_at_end (first ahead) ≡ false → reads ahead ≡ Err e → IsLeast IsFile (VerdictStops IsAtEnd) all e
-least_ahead all ahead before e f no r =
+least_ahead all ahead before e f begun r =
     let p = law.law.least ahead e tt r in
     let one = alone p.value (p.before ++ p.more) p.can_go_on in
     record {
@@ -365,25 +369,28 @@ least_ahead all ahead before e f no r =
           let a = ahead_of f.statements f.front (p.before ++ others) ((f.front ++ p.before) ++ others) own tail v f.before (append_assoc f.front p.before others) fits same stops in
           elim (view a.others a.own tail (p.before ++ others) a.fits a.parts a.stops) [
             | at_end at is ↦
-                let begun : is_at_end (first (p.before ++ others)) ≡ false = ap is_at_end (first_front p.before others p.rest o) ∙ ap (λ (us : List Token). is_at_end (first us)) (sym p.parts) ∙ no in
-                let k = sym at ∙ begun in
+                let later : is_at_end (first (p.before ++ others)) ≡ false = ap is_at_end (first_front p.before others p.rest o) ∙ ap (λ (us : List Token). is_at_end (first us)) (sym p.parts) ∙ begun in
+                let k = sym at ∙ later in
                 cc
             | goes x us more_of read then ↦ let k = sym read ∙ p.again others o in cc
           ];
     }
 
 pub first_of_file : (all : List Token) (e : DdlFault) → FallsFor all e → IsLeastOfFile all e
-first_of_file all e (before, ahead, f, no, inl r) wanted is =
+first_of_file all e (before, ahead, f, (begun, inl r)) wanted is =
     let same : r.0 ≡ wanted = same_fault r.0 wanted (sym r.2 ∙ is) in
     elim (reading_fails ahead wanted (r.1 ∙ ap (λ (g : SyntaxFault). Err g) same)) [
-      | inl k ↦ inl (least_ahead all ahead before wanted f no k)
+      | inl k ↦ inl (least_ahead all ahead before wanted f begun k)
       | inr k ↦
           let p = law.law.found ahead (falls wanted) k.0 tt k.1 in
-          inr (k.0, record {
-            own = f.front ++ p.own;
-            parts = f.parts ∙ ap (λ (us : List Token). f.front ++ us) p.parts ∙ sym (append_assoc f.front p.own k.0);
-            fits = file_behind f.statements f.front (falls wanted) p.own f.before (fallen p.fits);
-            stops = tt;
-          })
+          inr (
+            k.0,
+            record {
+              own = f.front ++ p.own;
+              parts = f.parts ∙ ap (λ (us : List Token). f.front ++ us) p.parts ∙ sym (append_assoc f.front p.own k.0);
+              fits = file_behind f.statements f.front (falls wanted) p.own f.before (fallen p.fits);
+              stops = tt;
+            },
+          )
     ]
-first_of_file all e (before, ahead, f, no, inr r) wanted is = absurd (no_syntax wanted before r.0 (subst (λ (g : DdlFault). IsRefused before r.0 g) is r.3))
+first_of_file all e (before, ahead, f, (begun, inr r)) wanted is = absurd (no_syntax wanted before r.0 (subst (λ (g : DdlFault). IsRefused before r.0 g) is r.3))

@@ -4,3 +4,4 @@ mod StatementLaws
 mod Same
 mod FileLaws
 pub mod Counts
+mod Steps

@@ -34,7 +34,7 @@ use Rattle.ddl_text.specs.declared.statement.WrittenName.{WrittenName}
 use Rattle.ddl_text.specs.Statements.{dictionary, function}
 use Rattle.ddl_text.specs.Grammar.{EndsText, IsBegun, IsDictionary, IsEnding, IsFunction, IsNamed, IsOrReplace, IsStatement, StatementStops, is_at_end, is_end}
 use Rattle.ddl_text.specs.Reading.{begin_at, behind_columns_at, dictionary_at, ending_at, function_at, named_at, or_replace_at, statement_at, text_end_at}
-use Rattle.ddl_text.proofs.Ahead.{asked, asks, end-ahead, end_no_keyword, end_no_sign, keyword_no_end, keyword_no_sign}
+use Rattle.ddl_text.proofs.Ahead.{asked, asks, end_ahead, end_no_keyword, end_no_sign, keyword_no_end, keyword_no_sign}
 use Rattle.ddl_text.proofs.NameLaws.{cond_bind, named_law, placed}
 
 -- ---- the parts of statements
@@ -54,7 +54,7 @@ or_replace_law = optional (is_keyword (codes "OR")) (headed (is_keyword (codes "
 
 text_end_is : (ts : List Token) → text_end_at ts ≡ asked is_at_end ts
 unfolding text_end_at
-text_end_is ts = ap (λ (b : Bool). cond b (Ok (tt, ts)) (unexpected ts)) (end-ahead ts)
+text_end_is ts = ap (λ (b : Bool). cond b (Ok (tt, ts)) (unexpected ts)) (end_ahead ts)
 
 text_end_law : {Before : Option Token → Type 0} → Lawful Before text_end_at (IsNothing (tt {0})) (λ _ o. is_at_end o ≡ true)
 text_end_law {Before = Before} = subst (λ (read : List Token → Read (Unit {0})). Lawful Before read (IsNothing (tt {0})) (λ _ o. is_at_end o ≡ true)) (fun_ext (λ ts. sym (text_end_is ts))) (asks is_at_end)
@@ -130,7 +130,7 @@ no_clause_follows a None e = tt
 no_clause_follows a (Some t) e = no_clause t e
 
 -- what is made of the ending stops where that does
-ended_by : {A : Type 0} (make : Bool → Statement) → ((b : Bool) → (make b).ended ≡ b) → (word : List ℕ) (statement : Statement) (ts rest : List Token) → Made make IsEnding statement ts → StatementStops statement (first rest)
+ended_by : (make : Bool → Statement) → ((b : Bool) → (make b).ended ≡ b) → (word : List ℕ) (statement : Statement) (ts rest : List Token) → Made make IsEnding statement ts → StatementStops statement (first rest)
     → passes_first (is_keyword word) (first (ts ++ rest)) ≡ false
 ended_by make ended word statement ts rest h s =
     ending_no_keyword word h.from ts rest h.fits (subst (λ (b : Bool). EndsText b (first rest)) (ap (λ (x : Statement). x.ended) h.is ∙ ended h.from) s)
@@ -157,7 +157,7 @@ module _ (place : ℕ) (name : WrittenName) (columns : List Column) where
   key_and_clauses_law =
       then_after key_law (λ keys.
       then_after dictionary_clauses_law (λ parts. made (dictionary place name columns keys parts) StatementStops (λ a o s. s) (λ a o s. s) ending_law)
-      (λ parts statement ts rest h s. no_clause_follows parts (first (ts ++ rest)) (λ word. ended_by {A = Unit {0}} (dictionary place name columns keys parts) (λ b. refl) word statement ts rest h s)))
+      (λ parts statement ts rest h s. no_clause_follows parts (first (ts ++ rest)) (λ word. ended_by (dictionary place name columns keys parts) (λ b. refl) word statement ts rest h s)))
       (λ keys statement ts rest h s. key_follows keys statement ts rest h)
 
 or_follows : (o : Option (Unit {0})) (v : Verdict Statement) (Next : Unit {0} → Verdict Statement → List Token → Type 0) (ts rest : List Token) → Then (IsKeyword (codes "DICTIONARY")) Next v ts
@@ -210,7 +210,7 @@ module _ (place : ℕ) (name : List ℕ) (arguments : List Arg) (returns : AttrT
   source_law {Before = Before} =
       subst (λ (read : List Token → Read Statement). Lawful Before read Source StatementStops) (fun_ext (λ ts. source_is ts))
       (then_after function_law (λ source. made (function place name arguments returns (function_parts source)) StatementStops (λ a o s. s) (λ a o s. s) ending_law)
-      (λ source statement ts rest h s. function_stops source (first (ts ++ rest)) (ended_by {A = Unit {0}} (function place name arguments returns (function_parts source)) (λ b. refl) (codes "SETTINGS") statement ts rest h s)))
+      (λ source statement ts rest h s. function_stops source (first (ts ++ rest)) (ended_by (function place name arguments returns (function_parts source)) (λ b. refl) (codes "SETTINGS") statement ts rest h s)))
 
   type_follows : (v : Verdict Statement) (ts rest : List Token) → Standing Source v ts → passes_first (is_the_sign 40) (first (ts ++ rest)) ≡ false
   type_follows (falls e) ts rest h = absurd h

@@ -1,6 +1,8 @@
 // A definitions file, statement by statement.
 ghost use Rattle.std.specs.Prelude.{◌≡◌, ◌<◌, ◌≤◌, length, All, IfOk, IsTrue, OnOk};
 ghost use Rattle.dict_schema.specs.Sound.{IsSoundItem};
+ghost use Rattle.ddl_tokens.specs.Reading.{kind_ahead};
+ghost use Rattle.ddl_text.specs.Grammar.{is_end};
 ghost use Rattle.ddl_text.specs.Files.{FallsFor, FallsHere, GoesOn, IfFault, IsReadWhole};
 
 use crate::fault::FileFault;
@@ -11,6 +13,13 @@ use dict_schema::Item;
 use dict_value::ListOf;
 use std::alloc::Global;
 
+/// Whether the text ends here.
+fn is_at_end(r: &Reader<'_>) -> bool
+    ensures { result ≡ is_end (kind_ahead r.now) }
+{
+    matches!(r.kind(), TokenKind::End)
+}
+
 /// One more item, where the text has one; it answers whether another statement may follow.
 fn next_item(alloc: Global, r: &mut Reader<'_>, items: &mut ListOf<Item>) -> Result<bool, FileFault>
     requires { length items.old ≤ 256 }
@@ -19,7 +28,7 @@ fn next_item(alloc: Global, r: &mut Reader<'_>, items: &mut ListOf<Item>) -> Res
     ensures sound { OnOk result (All IsSoundItem items.old → All IsSoundItem items.new) }
     ensures shorter { IfOk result (λ more. IsTrue more → length r.new < length r.old) }
 {
-    if let TokenKind::End = r.kind() {
+    if is_at_end(r) {
         return Ok(false);
     }
     let statement = statement(alloc, r)?;
