@@ -26,7 +26,9 @@ IsName = Then (IsBytes is_name) (λ first. Made (pointed first) (Optional IsBehi
 
 -- IF NOT EXISTS name
 abbrev pub IsNewName : Grammar WrittenName
-IsNewName = Then (IsKeyword (codes "IF")) (λ _. Then (IsKeyword (codes "NOT")) (λ _. Then (IsKeyword (codes "EXISTS")) (λ _. IsName)))
+IsNewName =
+    Then (IsKeyword (codes "IF")) (λ _. Then (IsKeyword (codes "NOT")) (λ _.
+    Then (IsKeyword (codes "EXISTS")) (λ _. IsName)))
 
 -- [ IF NOT EXISTS ] name; IF may be a name as well
 abbrev pub IsNamed : Grammar WrittenName

@@ -3,7 +3,8 @@ ghost use Rattle.std.specs.Prelude.{◌≡◌, ◌<◌, ◌≤◌, length, All, 
 ghost use Rattle.dict_schema.specs.Sound.{IsSoundType};
 ghost use Rattle.ddl_tokens.specs.Reading.{Gives};
 ghost use Rattle.ddl_text.specs.Files.{HasSoundTypes};
-ghost use Rattle.ddl_text.specs.Reading.{begin_at, behind_columns_at, dictionary_at, ending_at, function_at, or_replace_at, statement_at};
+ghost use Rattle.ddl_text.specs.Reading.{begin_at, behind_columns_at, dictionary_at, ending_at};
+ghost use Rattle.ddl_text.specs.Reading.{function_at, or_replace_at, statement_at};
 
 use crate::names::named;
 use crate::statement::{DictionaryText, FunctionText, Statement, Written, WrittenName};

@@ -1,4 +1,4 @@
-use Rattle.std.proofs.Common.{◌≡◌, List, All, Err, subst, sym}
+use Rattle.std.proofs.Common.{◌≡◌, Bool, List, All, Err, subst, sym}
 use Rattle.std.proofs.lemmas.List.Elements.{All-push}
 use Rattle.std.proofs.lemmas.Result.{err_from_is_err_and}
 use Rattle.dict_schema.specs.declared.definition.Item.{Item}
@@ -15,7 +15,7 @@ pub returns-in_err-statement : goal.returns-in_err-statement
 returns-in_err-statement c =
     let p = err_from_is_err_and c.from_residual.result c.from_residual.ensures.1 in
     let begun = begins_here c.args.r.now c.is_at_end.result c.is_at_end.ensures c.if-is_at_end.false in
-    rw (p.1, p.2) (record { value = tt; refused = statement_fails _ c.args.items.now c.args.r.now c.statement.new.r c.in_err-statement.field-0.0 begun c.in_err-statement.ensures.value; sound = tt; shorter = tt })
+    rw (p.1, p.2) (record { value = tt; refused = statement_fails Bool c.args.items.now c.args.r.now c.statement.new.r c.in_err-statement.field-0.0 begun c.in_err-statement.ensures.value; sound = tt; shorter = tt })
 
 pub returns-in_err-item : goal.returns-in_err-item
 returns-in_err-item c =
@@ -23,7 +23,7 @@ returns-in_err-item c =
     let begun = begins_here c.args.r.now c.is_at_end.result c.is_at_end.ensures c.if-is_at_end.false in
     rw (p.1, p.2) (record {
       value = tt;
-      refused = item_fails _ c.args.items.now c.args.r.now c.statement.new.r c.in_ok-statement.statement c.in_err-item.field-0.0 begun c.in_ok-statement.ensures.value
+      refused = item_fails Bool c.args.items.now c.args.r.now c.statement.new.r c.in_ok-statement.statement c.in_err-item.field-0.0 begun c.in_ok-statement.ensures.value
           (subst (λ (items : List Item). IfFault {X = Item} (Err c.in_err-item.field-0.0) (IsRefused items c.in_ok-statement.statement)) c.as_slice.ensures c.in_err-item.ensures.refused);
       sound = tt;
       shorter = tt;
