@@ -78,15 +78,16 @@ FallsHere before tokens told =
     (is_at_end (first tokens) ≡ false)
     × (((e : SyntaxFault) × (statement_at tokens ≡ Err e) × (told ≡ of_syntax e))
     ⊎ ((statement : Statement) × (rest : List Token)
-    × Begins IsStatement (VerdictStops StatementStops) tokens (stands statement) rest × IsRefused before statement told))
+    × Begins IsStatement (VerdictStops StatementStops) tokens (stands statement) rest
+    × IsRefused before statement told))
 
 -- whole statements that stand, and behind them one that doesn't
 abbrev pub FallsFor : List Token → DdlFault → Type 0
 FallsFor tokens told =
     (items : List Item) × (ahead : List Token) × FileSoFar tokens items ahead × FallsHere items ahead told
 
--- A fault of the grammar is the first one: it has the least place where a token can't stand in a file, or a statement of
--- the file falls for it. Any other fault is that of a statement that has a reading.
+-- A fault of the grammar is the first one: it has the least place where a token can't stand in a file, or a statement
+-- of the file falls for it. Any other fault is that of a statement that has a reading.
 abbrev pub IsLeastOfFile : List Token → DdlFault → Type 0
 IsLeastOfFile tokens told = (e : SyntaxFault) → told ≡ of_syntax e → IsLeastOrFalls IsFile IsAtEnd tokens e
 

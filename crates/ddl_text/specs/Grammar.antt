@@ -4,8 +4,8 @@ use Rattle.ddl_tokens.specs.declared.token.TokenKind.{TokenKind}
 use Rattle.ddl_tokens.specs.declared.token.TokenKind.TheVariants.{End}
 use Rattle.ddl_tokens.specs.Tokens.{Token}
 use Rattle.ddl_tokens.specs.Reading.{is_keyword, is_name}
-use Rattle.ddl_tokens.specs.Laws.{Either, Grammar, IsBytes, IsKeyword, IsNothing, IsOne, IsSign, Made, Optional, Stopping}
-use Rattle.ddl_tokens.specs.Laws.{Then, judged}
+use Rattle.ddl_tokens.specs.Laws.{Either, Grammar, IsBytes, IsKeyword, IsNothing, IsOne, IsSign, Made, Optional}
+use Rattle.ddl_tokens.specs.Laws.{Stopping, Then, judged}
 use Rattle.ddl_tokens.specs.Verdicts.{Verdict, Standing, ThenVerdict}
 use Rattle.ddl_columns.specs.Grammar.{AreArguments, AreColumns, IsKey, IsType}
 use Rattle.ddl_clauses.specs.Grammar.{AreDictionaryClauses, IsWrittenFunction}

@@ -63,7 +63,8 @@ begin_at word ts = if passes (is_keyword word) ts then Ok (place_ahead ts, drop 
 unfoldable pub or_replace_at : List Token → Read (Option (Unit {0}))
 or_replace_at ts =
     if passes (is_keyword (codes "OR")) ts
-    then (keyword_at (codes "OR") ts >>= λ k. keyword_at (codes "REPLACE") k.1) >>= (λ found. Ok (Some found.0, found.1))
+    then (keyword_at (codes "OR") ts >>= λ k. keyword_at (codes "REPLACE") k.1)
+    >>= (λ found. Ok (Some found.0, found.1))
     else Ok (None, ts)
 
 -- the text ends

@@ -4,7 +4,8 @@ ghost use Rattle.dict_schema.specs.Judging.{IsJudged};
 ghost use Rattle.dict_schema.specs.Sound.{IsSoundItem};
 ghost use Rattle.ddl_text.specs.Items.{IsCountAbove, IsFaultOf, count_of, is_named, item_of, item_written, name_of};
 ghost use Rattle.ddl_text.specs.Items.{number_of_item, number_of_written};
-ghost use Rattle.ddl_text.specs.Items.{rules_of, sizes_of, with_written, IsTaken, IsRefused, IsTakenItem, IsRefusedItem};
+ghost use Rattle.ddl_text.specs.Items.{rules_of, sizes_of, with_written};
+ghost use Rattle.ddl_text.specs.Items.{IsTaken, IsRefused, IsTakenItem, IsRefusedItem};
 ghost use Rattle.ddl_text.specs.Files.{HasSoundTypes, IfFault};
 ghost use Rattle.ddl_text.specs.declared.statement.Written.TheVariants as written;
 

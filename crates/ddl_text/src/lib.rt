@@ -41,7 +41,8 @@ pub fn parse_definitions(alloc: Global, text: &[u8]) -> Result<ListOf<Item>, Ddl
     // Whole statements that stand come before a fault, and behind them one that has no reading or doesn't stand.
     ensures exact { (tokens : List Token) → AreTokens text.now tokens → IfRefused result (λ line. FallsFor tokens) }
     // A fault of the grammar is the one with the least place.
-    ensures least { (tokens : List Token) → AreTokens text.now tokens → IfRefused result (λ line. IsLeastOfFile tokens) }
+    ensures least { (tokens : List Token) → AreTokens text.now tokens
+        → IfRefused result (λ line. IsLeastOfFile tokens) }
     ensures line { IfRefused result (λ line fault. line ≡ line_of text.now (place_of_fault fault)) }
     // Later layers take what is read.
     ensures sound { IfOk result (All IsSoundItem) }

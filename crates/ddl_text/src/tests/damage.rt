@@ -46,11 +46,14 @@ static SHOWN: [(Look, &[u8]); 4] = [
     (Look::Names, b" geo.country tariff net echo same()"),
     (
         Look::Columns,
-        b" id UInt64 0, name String 'unknown' by 0 zone String '', weight UInt8 0, valid_from Date 0, valid_to Date nullable NULL, price Decimal 9 2 0 by 0 1 prefix String '', asn UInt32 0, cc String '??' by 0 id UInt64 0, v UInt64 0 by 0 a UInt64 gives UInt64 67108864",
+        b" id UInt64 0, name String 'unknown' by 0 zone String '', weight UInt8 0, valid_from Date 0, valid_to \
+            Date nullable NULL, price Decimal 9 2 0 by 0 1 prefix String '', asn UInt32 0, cc String '??' by 0 \
+            id UInt64 0, v UInt64 0 by 0 a UInt64 gives UInt64 67108864",
     ),
     (
         Look::Source,
-        b" cat country.tsv 10000 10000 10 16 10 cat tariff.csv csv 10000 10000 10 16 10 cat net.tsv 10000 10000 10 16 10 pool cat implicit 10000 10000 10 2 10 pool cat 10000 10000 10 16 10",
+        b" cat country.tsv 10000 10000 10 16 10 cat tariff.csv csv 10000 10000 10 16 10 cat net.tsv 10000 10000 \
+            10 16 10 pool cat implicit 10000 10000 10 2 10 pool cat 10000 10000 10 16 10",
     ),
     (
         Look::Clauses,
@@ -84,13 +87,13 @@ fn tokens_behind(alloc: Global, text: &[u8], damage: usize) -> Result<u32, NoMem
         Err(DdlRefusal::Refused { fault, .. }) => place_of(&fault),
     };
     let mut reader = Reader::new(text);
-    let mut behind = 0;
+    let mut behind: u32 = 0;
     for _ in 0..MOST {
         if reader.place() >= place || !reader.goes_on() {
             break;
         }
         if reader.place() as usize >= damage {
-            behind += 1;
+            behind = behind.saturating_add(1);
         }
         reader.skip();
     }
@@ -127,13 +130,13 @@ fn behind_damages(
     end: usize,
     most: &mut u32,
 ) -> Result<u32, NoMemory> {
-    let mut count = 0;
+    let mut count: u32 = 0;
     for (number, damage) in DAMAGES.iter().enumerate() {
         let text = damaged(alloc, number, damage, start, end)?;
         let place = if number == 1 { end + 1 } else { start };
         let behind = tokens_behind(alloc, text.as_slice(), place)?;
         if behind > 0 {
-            count += 1;
+            count = count.saturating_add(1);
         }
         if behind > *most {
             *most = behind;
@@ -145,8 +148,8 @@ fn behind_damages(
 #[test]
 fn a_damaged_token_is_told_near_it(rt: HostRuntime) -> Result<(), Fail> {
     let mut reader = Reader::new(SHOP);
-    let mut tokens = 0;
-    let mut count = 0;
+    let mut tokens: u32 = 0;
+    let mut count: u32 = 0;
     let mut most = 0;
     for _ in 0..SHOP.len() {
         if !reader.goes_on() {
@@ -155,8 +158,8 @@ fn a_damaged_token_is_told_near_it(rt: HostRuntime) -> Result<(), Fail> {
         let start = reader.place() as usize;
         reader.skip();
         let end = reader.place() as usize;
-        count += behind_damages(rt.alloc(), start, end, &mut most)?;
-        tokens += 1;
+        count = count.saturating_add(behind_damages(rt.alloc(), start, end, &mut most)?);
+        tokens = tokens.saturating_add(1);
     }
     assert_eq!(rt; tokens, 196);
     assert_eq!(rt; count, 94);

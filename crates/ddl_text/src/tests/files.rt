@@ -4,7 +4,7 @@ use dict_value::{Bytes, NoMemory};
 use std::alloc::Global;
 use std::test::Fail;
 
-static FILES: [(&[u8], &[u8]); 48] = [
+static FILES: [(&[u8], &[u8]); 49] = [
     (b"", b""),
     (b" -- nothing\n/* at all */", b""),
     (b"CREATE DICTIONARY d (id Float64)", b" 1 24 unsupported"),
@@ -37,11 +37,13 @@ static FILES: [(&[u8], &[u8]); 48] = [
     (b"CREATE DICTIONARY d (id /* a", b" 1 24 unexpected"),
     (b"CREATE DICTIONARY d (id `\\x1`", b" 1 25 unexpected"),
     (
-        b"create or replace dictionary if not exists d (id UInt64) PRIMARY KEY id SOURCE(EXECUTABLE(command 'c' format TSV)) LAYOUT(FLAT)",
+        b"create or replace dictionary if not exists d (id UInt64) PRIMARY KEY id SOURCE(EXECUTABLE(command 'c' \
+            format TSV)) LAYOUT(FLAT)",
         b" d",
     ),
     (
-        b"CREATE DICTIONARY a . `b c` (id UInt64) PRIMARY KEY id SOURCE(EXECUTABLE(command 'c' format TSV)) LAYOUT(FLAT);",
+        b"CREATE DICTIONARY a . `b c` (id UInt64) PRIMARY KEY id SOURCE(EXECUTABLE(command 'c' format TSV)) \
+            LAYOUT(FLAT);",
         b" a.b c",
     ),
     (
@@ -49,7 +51,8 @@ static FILES: [(&[u8], &[u8]); 48] = [
         b" if",
     ),
     (
-        b"CREATE DICTIONARY IF NOT EXISTS if.not (id UInt64) PRIMARY KEY id SOURCE(EXECUTABLE(command 'c' format TSV)) LAYOUT(FLAT);",
+        b"CREATE DICTIONARY IF NOT EXISTS if.not (id UInt64) PRIMARY KEY id SOURCE(EXECUTABLE(command 'c' \
+            format TSV)) LAYOUT(FLAT);",
         b" if.not",
     ),
     (
@@ -57,29 +60,36 @@ static FILES: [(&[u8], &[u8]); 48] = [
         b" 1 103 unexpected",
     ),
     (
-        b"CREATE DICTIONARY d (id UInt64) PRIMARY KEY id SOURCE(EXECUTABLE(command 'c' format TSV)) LAYOUT(FLAT)\nCREATE",
+        b"CREATE DICTIONARY d (id UInt64) PRIMARY KEY id SOURCE(EXECUTABLE(command 'c' format TSV)) \
+            LAYOUT(FLAT)\nCREATE",
         b" 2 103 unexpected",
     ),
     (
-        b"CREATE DICTIONARY d (id UInt64) PRIMARY KEY id SOURCE(EXECUTABLE(command 'c' format TSV)) LAYOUT(FLAT);\nCREATE",
+        b"CREATE DICTIONARY d (id UInt64) PRIMARY KEY id SOURCE(EXECUTABLE(command 'c' format TSV)) \
+            LAYOUT(FLAT);\nCREATE",
         b" 2 110 unexpected",
     ),
     // a repeated name; a function may have a dictionary's
     (
-        b"CREATE DICTIONARY d (id UInt64) PRIMARY KEY id SOURCE(EXECUTABLE(command 'c' format TSV)) LAYOUT(FLAT);\n\nCREATE DICTIONARY `d` (id UInt64) PRIMARY KEY id SOURCE(EXECUTABLE(command 'c' format TSV)) LAYOUT(FLAT)",
+        b"CREATE DICTIONARY d (id UInt64) PRIMARY KEY id SOURCE(EXECUTABLE(command 'c' format TSV)) \
+            LAYOUT(FLAT);\n\nCREATE DICTIONARY `d` (id UInt64) PRIMARY KEY id SOURCE(EXECUTABLE(command 'c' \
+            format TSV)) LAYOUT(FLAT)",
         b" 3 105 duplicate name 2",
     ),
     (
-        b"CREATE DICTIONARY d (id UInt64) PRIMARY KEY id SOURCE(EXECUTABLE(command 'c' format TSV)) LAYOUT(FLAT);EXECUTABLE FUNCTION d(a UInt8) RETURNS UInt8 SOURCE(EXECUTABLE(command 'c' format TSV))",
+        b"CREATE DICTIONARY d (id UInt64) PRIMARY KEY id SOURCE(EXECUTABLE(command 'c' format TSV)) \
+            LAYOUT(FLAT);EXECUTABLE FUNCTION d(a UInt8) RETURNS UInt8 SOURCE(EXECUTABLE(command 'c' format TSV))",
         b" d d()",
     ),
     // the fault of a definition comes before those of later statements, and behind its own statement's
     (
-        b"CREATE DICTIONARY d (id UInt8) PRIMARY KEY id SOURCE(EXECUTABLE(command 'c' format TSV)) LAYOUT(FLAT); nonsense",
+        b"CREATE DICTIONARY d (id UInt8) PRIMARY KEY id SOURCE(EXECUTABLE(command 'c' format TSV)) \
+            LAYOUT(FLAT); nonsense",
         b" 1 0 simple key type",
     ),
     (
-        b"CREATE DICTIONARY d (id UInt8) PRIMARY KEY id SOURCE(EXECUTABLE(command 'c' format TSV)) LAYOUT(FLAT) nonsense",
+        b"CREATE DICTIONARY d (id UInt8) PRIMARY KEY id SOURCE(EXECUTABLE(command 'c' format TSV)) LAYOUT(FLAT) \
+            nonsense",
         b" 1 102 unexpected",
     ),
     (
@@ -91,11 +101,13 @@ static FILES: [(&[u8], &[u8]); 48] = [
         b" 1 0 limit name 0",
     ),
     (
-        b"CREATE DICTIONARY d (id Nullable(UInt64)) PRIMARY KEY id SOURCE(EXECUTABLE(command 'c' format TSV)) LAYOUT(FLAT)",
+        b"CREATE DICTIONARY d (id Nullable(UInt64)) PRIMARY KEY id SOURCE(EXECUTABLE(command 'c' format TSV)) \
+            LAYOUT(FLAT)",
         b" 1 0 simple key type",
     ),
     (
-        b"CREATE DICTIONARY d (id Nullable(UInt64)) PRIMARY KEY id SOURCE(EXECUTABLE(command 'c' format TSV)) LAYOUT(COMPLEX_KEY_HASHED)",
+        b"CREATE DICTIONARY d (id Nullable(UInt64)) PRIMARY KEY id SOURCE(EXECUTABLE(command 'c' format TSV)) \
+            LAYOUT(COMPLEX_KEY_HASHED)",
         b" 1 0 key type 1",
     ),
     (
@@ -105,6 +117,12 @@ static FILES: [(&[u8], &[u8]); 48] = [
     (
         b"EXECUTABLE FUNCTION f(a UInt8, a String) RETURNS UInt8 SOURCE(EXECUTABLE(command 'c' format TSV))",
         b" 1 0 duplicate name 2",
+    ),
+    (
+        b"EXECUTABLE FUNCTION f(a Date, b Date, c Date, d Date, e Date, f Date, g Date, h Date, i Date, j Date, \
+            k Date, l Date, m Date, n Date, o Date, p Date, q Date) RETURNS Date \
+            SOURCE(EXECUTABLE(command 'c' format TSV))",
+        b" 1 0 limit arguments 17",
     ),
     (
         b"EXECUTABLE FUNCTION f(a UInt8,) RETURNS UInt8",
@@ -121,7 +139,8 @@ static FILES: [(&[u8], &[u8]); 48] = [
         b" 1 88 unexpected",
     ),
     (
-        b"EXECUTABLE FUNCTION f(a UInt8) RETURNS UInt8 SOURCE(EXECUTABLE(command 'c' format TSV)) SETTINGS(max_output_bytes = 200000000)",
+        b"EXECUTABLE FUNCTION f(a UInt8) RETURNS UInt8 SOURCE(EXECUTABLE(command 'c' format TSV)) \
+            SETTINGS(max_output_bytes = 200000000)",
         b" 1 0 limit output 200000000",
     ),
 ];
@@ -139,7 +158,8 @@ fn files(rt: HostRuntime) -> Result<(), Fail> {
 static LOOKS: [(Look, &[u8], &[u8]); 7] = [
     (
         Look::Columns,
-        b"EXECUTABLE FUNCTION f(a UInt8, `b` Nullable(Decimal(5, 1))) RETURNS Nullable(String) SOURCE(EXECUTABLE(command 'c' format TSV)) SETTINGS(max_output_bytes = 7)",
+        b"EXECUTABLE FUNCTION f(a UInt8, `b` Nullable(Decimal(5, 1))) RETURNS Nullable(String) \
+            SOURCE(EXECUTABLE(command 'c' format TSV)) SETTINGS(max_output_bytes = 7)",
         b" a UInt8 b Decimal 5 1 nullable gives String nullable 7",
     ),
     (
@@ -150,12 +170,15 @@ static LOOKS: [(Look, &[u8], &[u8]); 7] = [
     // a default of a key or an end of the range has no effect
     (
         Look::Columns,
-        b"CREATE DICTIONARY d (id UInt64 DEFAULT 7, a Date DEFAULT '2000-01-01', b Nullable(Date) DEFAULT '2000-01-01', c Date DEFAULT '1970-01-02') PRIMARY KEY id SOURCE(EXECUTABLE(command 'c' format TSV)) LAYOUT(RANGE_HASHED) RANGE(MIN a MAX b)",
+        b"CREATE DICTIONARY d (id UInt64 DEFAULT 7, a Date DEFAULT '2000-01-01', b Nullable(Date) DEFAULT \
+            '2000-01-01', c Date DEFAULT '1970-01-02') PRIMARY KEY id SOURCE(EXECUTABLE(command 'c' format \
+            TSV)) LAYOUT(RANGE_HASHED) RANGE(MIN a MAX b)",
         b" id UInt64 0, a Date 0, b Date nullable NULL, c Date 1 by 0",
     ),
     (
         Look::Columns,
-        b"CREATE DICTIONARY d (id UInt64 DEFAULT 'q', x String) PRIMARY KEY id SOURCE(EXECUTABLE(command 'c' format TSV)) LAYOUT(FLAT)",
+        b"CREATE DICTIONARY d (id UInt64 DEFAULT 'q', x String) PRIMARY KEY id SOURCE(EXECUTABLE(command 'c' \
+            format TSV)) LAYOUT(FLAT)",
         b" 1 0 bad default 1",
     ),
     // the line of the canonical text
@@ -165,7 +188,10 @@ static LOOKS: [(Look, &[u8], &[u8]); 7] = [
 ];
 
 const CANONICAL: &[u8] =
-    b"CREATE DICTIONARY `d` (`id` UInt64, `x` String DEFAULT '') PRIMARY KEY `id` SOURCE(EXECUTABLE(command 'c' format 'TabSeparated' execute_direct 0 implicit_key 0 send_chunk_header 0 command_read_timeout 10000 command_write_timeout 10000 command_termination_timeout 10)) LAYOUT(FLAT(INITIAL_ARRAY_SIZE 1024 MAX_ARRAY_SIZE 500000)) LIFETIME(MIN 0 MAX 0) SETTINGS(max_output_bytes = 67108864)";
+    b"CREATE DICTIONARY `d` (`id` UInt64, `x` String DEFAULT '') PRIMARY KEY `id` SOURCE(EXECUTABLE(command 'c' \
+        format 'TabSeparated' execute_direct 0 implicit_key 0 send_chunk_header 0 command_read_timeout 10000 \
+        command_write_timeout 10000 command_termination_timeout 10)) LAYOUT(FLAT(INITIAL_ARRAY_SIZE 1024 \
+        MAX_ARRAY_SIZE 500000)) LIFETIME(MIN 0 MAX 0) SETTINGS(max_output_bytes = 67108864)";
 
 #[test]
 fn looks(rt: HostRuntime) -> Result<(), Fail> {

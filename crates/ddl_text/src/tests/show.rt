@@ -319,11 +319,13 @@ fn around(among: Among) -> (&'static [u8], &'static [u8]) {
             b"",
         ),
         Among::Clauses => (
-            b"CREATE DICTIONARY d (id UInt64, x String, a Date, b Date) PRIMARY KEY id SOURCE(EXECUTABLE(command 'c' format TSV)) ",
+            b"CREATE DICTIONARY d (id UInt64, x String, a Date, b Date) PRIMARY KEY id \
+                SOURCE(EXECUTABLE(command 'c' format TSV)) ",
             b"",
         ),
         Among::Layout => (
-            b"CREATE DICTIONARY d (id UInt64, x String, a Date, b Date) PRIMARY KEY id SOURCE(EXECUTABLE(command 'c' format TSV)) LAYOUT(",
+            b"CREATE DICTIONARY d (id UInt64, x String, a Date, b Date) PRIMARY KEY id \
+                SOURCE(EXECUTABLE(command 'c' format TSV)) LAYOUT(",
             b")",
         ),
         Among::Executable => (
@@ -331,7 +333,8 @@ fn around(among: Among) -> (&'static [u8], &'static [u8]) {
             b"))",
         ),
         Among::Pool => (
-            b"CREATE DICTIONARY d (id UInt64) PRIMARY KEY id LAYOUT(DIRECT) SOURCE(EXECUTABLE_POOL(command 'c' format TSV ",
+            b"CREATE DICTIONARY d (id UInt64) PRIMARY KEY id LAYOUT(DIRECT) SOURCE(EXECUTABLE_POOL(command 'c' \
+                format TSV ",
             b"))",
         ),
         Among::Function => (
