@@ -133,7 +133,11 @@ fn behind_damages(
     let mut count: u32 = 0;
     for (number, damage) in DAMAGES.iter().enumerate() {
         let text = damaged(alloc, number, damage, start, end)?;
-        let place = if number == 1 { end + 1 } else { start };
+        let place = if number == 1 {
+            end.saturating_add(1)
+        } else {
+            start
+        };
         let behind = tokens_behind(alloc, text.as_slice(), place)?;
         if behind > 0 {
             count = count.saturating_add(1);
