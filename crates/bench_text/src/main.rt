@@ -5,8 +5,7 @@
 
 use ddl_text::{DdlRefusal, fault_words, parse_definitions};
 use std::alloc::Global;
-use std::io::Write;
-use std::io::Read;
+use std::io::{Read, Write};
 use std::time::Instant;
 use std::{env, io};
 

@@ -1,17 +1,14 @@
 -- What the token in hand is, and readings that ask for it alone.
-use Rattle.std.proofs.Common.{◌≡◌, ℕ, Bool, true, false, cond, List, [], ◌∷◌, ◌++◌, Option, Some, None, Ok, Err, refl, sym, ap, subst, ◌∙◌, inl, inr}
-use Rattle.std.specs.Prelude.{codes}
+use Rattle.std.proofs.Common.{◌≡◌, ℕ, Bool, true, false, cond, List, [], ◌∷◌, ◌++◌, Option, Ok, Err, refl, sym, ap, ◌∙◌, inl, inr}
 use Rattle.std.proofs.lemmas.Bool.{cond-true, cond-false, cases_Bool}
 use Rattle.ddl_tokens.specs.declared.fault.SyntaxFault.{SyntaxFault}
 use Rattle.ddl_tokens.specs.declared.fault.SyntaxFault.TheVariants.{Unexpected}
 use Rattle.ddl_tokens.specs.declared.token.TokenKind.{TokenKind}
 use Rattle.ddl_tokens.specs.declared.token.TokenKind.TheVariants.{Word, QuotedWord, Number, String, Sign, Broken, End}
-use Rattle.ddl_tokens.specs.declared.letters.LetterCase.TheVariants.{Any}
-use Rattle.ddl_tokens.specs.Letters.{same_letters}
 use Rattle.ddl_tokens.specs.Tokens.{Token}
-use Rattle.ddl_tokens.specs.Reading.{Read, is_keyword, is_signed, is_the_sign, is_word, kind_ahead, passes, place_ahead, unexpected}
-use Rattle.ddl_tokens.specs.Laws.{first, passes_first, place_of, IsNothing, Lawful}
-use Rattle.ddl_tokens.proofs.Laws.{ok_is, passes-first, sign_no_keyword, test_cases}
+use Rattle.ddl_tokens.specs.Reading.{Read, is_keyword, is_signed, is_the_sign, is_word, kind_ahead, place_ahead, unexpected}
+use Rattle.ddl_tokens.specs.Laws.{first, place_of, IsNothing, Lawful}
+use Rattle.ddl_tokens.proofs.Laws.{ok_is, sign_no_keyword, test_cases}
 use Rattle.ddl_tokens.proofs.Once.{place_same}
 use Rattle.ddl_text.specs.Grammar.{is_at_end, is_end}
 

@@ -1,7 +1,7 @@
 -- How many columns, keys and items there are.
-use Rattle.std.proofs.Common.{◌≡◌, ℕ, zero, suc, ◌+◌, ◌<◌, ◌≤◌, Bool, true, false, cond, List, [], ◌∷◌, ◌++◌, length, map, All, refl, sym, ap, subst, ◌∙◌, inl, inr, arith}
+use Rattle.std.proofs.Common.{◌≡◌, ℕ, suc, ◌+◌, ◌<◌, ◌≤◌, Bool, true, false, cond, List, [], ◌∷◌, ◌++◌, length, map, All, refl, sym, ap, subst, inl, inr, arith}
 use Rattle.std.specs.Prelude.{◌==◌, nat_le}
-use Rattle.std.proofs.lemmas.Bool.{cond-true, cond-false, cases_Bool}
+use Rattle.std.proofs.lemmas.Bool.{cond-true, cond-false}
 use Rattle.std.proofs.lemmas.Bool.Decides.{nat_tests}
 use Rattle.std.proofs.lemmas.List.Elements.{All-nil, All-cons, All-head, All-tail}
 use Rattle.dict_value.specs.declared.value.AttrType.{AttrType}
@@ -9,17 +9,16 @@ use Rattle.dict_schema.specs.declared.definition.Column.{Column}
 use Rattle.dict_schema.specs.declared.definition.Item.{Item}
 use Rattle.dict_schema.specs.declared.definition.Item.TheVariants as item
 use Rattle.dict_schema.specs.declared.definition.RangeOf.{RangeOf}
-use Rattle.dict_schema.specs.declared.fault.DefFault.{DefFault}
 use Rattle.dict_schema.specs.declared.fault.DefFault.TheVariants as definition
 use Rattle.dict_schema.specs.declared.fault.Which.TheVariants as which
-use Rattle.dict_schema.specs.Judging.{AreClear, IsClear, IsFirstFault}
-use Rattle.dict_schema.specs.Sound.{IsSound, IsSoundFunction, IsSoundItem, IsSoundType}
-use Rattle.dict_schema.specs.Table.{Within, table}
+use Rattle.dict_schema.specs.Judging.{AreClear, IsClear}
+use Rattle.dict_schema.specs.Sound.{IsSoundItem, IsSoundType}
+use Rattle.dict_schema.specs.Table.{Within}
 use Rattle.ddl_text.specs.declared.statement.DictionaryText.{DictionaryText}
 use Rattle.ddl_text.specs.declared.statement.Statement.{Statement}
 use Rattle.ddl_text.specs.declared.statement.Written.{Written}
 use Rattle.ddl_text.specs.declared.statement.Written.TheVariants as written
-use Rattle.ddl_text.specs.Items.{IsCountAbove, IsTaken, count_of, definition_of, is_full, is_misfit, is_set_apart, item_of, item_written, key_places, number_of_item, number_of_written, place_of_column, range_of, rules_of, settled, settled_from}
+use Rattle.ddl_text.specs.Items.{IsCountAbove, count_of, definition_of, is_misfit, is_set_apart, item_of, item_written, key_places, number_of_item, number_of_written, place_of_column, range_of, rules_of, settled, settled_from}
 use Rattle.ddl_text.specs.Files.{AreItems, AreItemsFrom, HaveSoundTypes}
 
 -- ---- columns and keys

@@ -1,5 +1,5 @@
 -- A file is read by its grammar, and its first fault is told.
-use Rattle.std.proofs.Common.{◌≡◌, ℕ, Bool, true, false, List, [], ◌∷◌, ◌++◌, Option, Some, None, Result, Ok, Err, refl, sym, ap, subst, ◌∙◌, ◌⊎◌, inl, inr, append_assoc}
+use Rattle.std.proofs.Common.{◌≡◌, Bool, true, false, List, [], ◌∷◌, ◌++◌, Option, Ok, Err, refl, sym, ap, subst, ◌∙◌, ◌⊎◌, inl, inr, append_assoc}
 use Rattle.std.proofs.lemmas.List.{append-nil}
 use Rattle.dict_schema.specs.declared.definition.Item.{Item}
 use Rattle.dict_schema.specs.declared.fault.DefFault.{DefFault}
@@ -8,8 +8,8 @@ use Rattle.ddl_tokens.specs.declared.fault.SyntaxFault.{SyntaxFault}
 use Rattle.ddl_tokens.specs.declared.fault.SyntaxFault.TheVariants as syntax
 use Rattle.ddl_tokens.specs.Tokens.{Token}
 use Rattle.ddl_tokens.specs.Reading.{◌>>=◌, Read}
-use Rattle.ddl_tokens.specs.Laws.{Begins, IsLeast, Lawful, Starts, first}
-use Rattle.ddl_tokens.specs.Verdicts.{Verdict, stands, falls, verdict_map, told, IsLeastOrFalls, LawfulVerdict, VerdictStops}
+use Rattle.ddl_tokens.specs.Laws.{IsLeast, first}
+use Rattle.ddl_tokens.specs.Verdicts.{Verdict, stands, falls, verdict_map, told, LawfulVerdict, VerdictStops}
 use Rattle.ddl_tokens.proofs.Laws.{first_front, ok_is}
 use Rattle.ddl_tokens.proofs.Verdicts.{read_as}
 use Rattle.ddl_text.specs.declared.fault.DdlFault.{DdlFault}
@@ -17,8 +17,8 @@ use Rattle.ddl_text.specs.declared.statement.Statement.{Statement}
 use Rattle.ddl_text.specs.Faults.{of_syntax}
 use Rattle.ddl_text.specs.Grammar.{EndsText, IsStatement, StatementStops, is_at_end}
 use Rattle.ddl_text.specs.Reading.{statement_at}
-use Rattle.ddl_text.specs.Items.{IsRefused, IsRefusedItem, IsTaken, IsTakenItem, is_full, item_of, rules_of}
-use Rattle.ddl_text.specs.Files.{IsEnded, AreEnded, none, more, IsFile, empty, last, fallen, IsAtEnd, AreItemsFrom, AreItems, IsDefined, FileSoFar, FallsHere, FallsFor, IsLeastOfFile, GoesOn, IsReadWhole}
+use Rattle.ddl_text.specs.Items.{IsRefused, IsTaken, item_of, rules_of}
+use Rattle.ddl_text.specs.Files.{IsEnded, AreEnded, none, more, IsFile, empty, last, fallen, IsAtEnd, AreItemsFrom, AreItems, IsDefined, FileSoFar, FallsFor, IsLeastOfFile, GoesOn, IsReadWhole}
 use Rattle.ddl_text.proofs.StatementLaws.{no_end_first, statement_begins, statement_law}
 
 -- ---- one statement

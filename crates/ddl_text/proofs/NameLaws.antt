@@ -1,8 +1,8 @@
 -- Names are read by their grammar.
-use Rattle.std.proofs.Common.{◌≡◌, ℕ, Bool, true, false, cond, List, [], ◌∷◌, ◌++◌, Option, Some, None, Result, Ok, Err, refl, sym, ap, subst, ◌∙◌, append_assoc, inl, inr}
+use Rattle.std.proofs.Common.{◌≡◌, ℕ, Bool, true, false, cond, List, [], ◌++◌, Option, Some, None, Result, Ok, Err, refl, sym, ap, subst, ◌∙◌, inl, inr}
 use mathlib.Core.Path.{fun_ext}
 use Rattle.std.specs.Prelude.{codes}
-use Rattle.std.proofs.lemmas.Bool.{cond-true, cond-false, cases_Bool}
+use Rattle.std.proofs.lemmas.Bool.{cond-true}
 use Rattle.ddl_tokens.specs.declared.fault.SyntaxFault.{SyntaxFault}
 use Rattle.ddl_tokens.specs.declared.fault.SyntaxFault.TheVariants.{Unexpected}
 use Rattle.ddl_tokens.specs.declared.letters.LetterCase.TheVariants.{Any}
@@ -10,13 +10,13 @@ use Rattle.ddl_tokens.specs.declared.token.TokenKind.{TokenKind}
 use Rattle.ddl_tokens.specs.declared.token.TokenKind.TheVariants.{Word, QuotedWord, Number, String, Sign, Broken, End}
 use Rattle.ddl_tokens.specs.Letters.{same_letters}
 use Rattle.ddl_tokens.specs.Tokens.{Token}
-use Rattle.ddl_tokens.specs.Reading.{◌>>=◌, Read, bytes_ahead, is_keyword, is_name, is_the_sign, is_word, of_kind, passes, unexpected}
-use Rattle.ddl_tokens.specs.Laws.{first, passes_first, place_of, Anyhow, Either, IsBytes, IsKeyword, IsNothing, IsOne, IsSign, Lawful, Made, Optional, OptionalStops, Then, judged}
+use Rattle.ddl_tokens.specs.Reading.{◌>>=◌, Read, bytes_ahead, is_keyword, is_name, is_the_sign, is_word, passes, unexpected}
+use Rattle.ddl_tokens.specs.Laws.{first, passes_first, place_of, Anyhow, Either, IsBytes, IsKeyword, IsNothing, IsOne, Lawful, Made, Optional, OptionalStops, Then, judged}
 use Rattle.ddl_tokens.proofs.Laws.{Fails, Passes, by_token, bytes, first_passes, headed, judged_ok, keyword, made, one_token, optional, passes-first, said, sign, sign_no_keyword, signs_apart, then, then_after}
 use Rattle.ddl_tokens.proofs.Verdicts.{then_nothing, nothing_then}
 use Rattle.ddl_text.specs.declared.statement.WrittenName.{WrittenName}
 use Rattle.ddl_text.specs.Statements.{pointed}
-use Rattle.ddl_text.specs.Grammar.{IsBehindPoint, IsName, IsNamed, IsNewName}
+use Rattle.ddl_text.specs.Grammar.{IsBehindPoint, IsName, IsNamed}
 use Rattle.ddl_text.specs.Reading.{behind_point_at, behind_word_at, bracket_ahead_at, first_word_at, name_at, name_behind_at, named_at, not_exists_at}
 use Rattle.ddl_text.proofs.Ahead.{asked, asks}
 

@@ -1,39 +1,36 @@
 -- Statements are read by their grammar.
-use Rattle.std.proofs.Common.{◌≡◌, ℕ, Bool, true, false, cond, List, [], ◌∷◌, ◌++◌, Option, Some, None, Result, Ok, Err, refl, sym, ap, subst, ◌∙◌, inl, inr}
+use Rattle.std.proofs.Common.{◌≡◌, ℕ, Bool, true, false, cond, List, ◌∷◌, ◌++◌, Option, Some, None, Ok, Err, refl, sym, ap, subst, ◌∙◌, inl, inr}
 use mathlib.Core.Path.{fun_ext}
 use Rattle.std.specs.Prelude.{codes}
-use Rattle.std.proofs.lemmas.Bool.{cond-true, cond-false}
+use Rattle.std.proofs.lemmas.Bool.{cond-false}
 use Rattle.dict_value.specs.declared.value.AttrType.{AttrType}
 use Rattle.dict_schema.specs.declared.definition.Arg.{Arg}
 use Rattle.dict_schema.specs.declared.definition.Column.{Column}
-use Rattle.ddl_tokens.specs.declared.fault.SyntaxFault.{SyntaxFault}
 use Rattle.ddl_tokens.specs.declared.fault.SyntaxFault.TheVariants.{Unexpected}
-use Rattle.ddl_tokens.specs.declared.letters.LetterCase.TheVariants.{Any, AsWritten}
+use Rattle.ddl_tokens.specs.declared.letters.LetterCase.TheVariants.{Any}
 use Rattle.ddl_tokens.specs.declared.token.TokenKind.TheVariants.{Word}
 use Rattle.ddl_tokens.specs.Letters.{same_letters}
 use Rattle.ddl_tokens.specs.Tokens.{Token}
-use Rattle.ddl_tokens.specs.Reading.{◌>>=◌, Read, is_keyword, is_name, is_the_sign, passes, place_ahead, unexpected}
-use Rattle.ddl_tokens.specs.Laws.{first, passes_first, place_of, Anyhow, Either, IsBytes, IsKeyword, IsNothing, IsOne, IsSign, Lawful, Made, Optional, OptionalStops, Then, judged}
+use Rattle.ddl_tokens.specs.Reading.{◌>>=◌, Read, is_keyword, is_name, is_the_sign, passes, unexpected}
+use Rattle.ddl_tokens.specs.Laws.{first, passes_first, Anyhow, Either, IsKeyword, IsNothing, IsOne, IsSign, Lawful, Made, Optional, OptionalStops, Then, judged}
 use Rattle.ddl_tokens.specs.Verdicts.{Verdict, stands, falls, LawfulVerdict, Standing, ThenVerdict, VerdictStops, told}
-use Rattle.ddl_tokens.proofs.Laws.{Fails, Passes, by_token, bytes, first_passes, headed, judged_ok, keyword, keywords_apart, made, one_token, optional, said, same_itself, sign, sign_no_keyword, signs_apart, then, then_after}
+use Rattle.ddl_tokens.proofs.Laws.{Fails, Passes, by_token, bytes, first_passes, headed, judged_ok, keyword, keywords_apart, made, one_token, optional, said, same_itself, sign, sign_no_keyword, then, then_after}
 use Rattle.ddl_tokens.proofs.Verdicts.{judged_then_after, standing, then_judged, then_judged_after}
-use Rattle.ddl_columns.specs.Grammar.{AreArguments, AreColumns, IsKey, IsType}
-use Rattle.ddl_columns.specs.Reading.{arguments_at, column_list_at, key_at, type_at}
+use Rattle.ddl_columns.specs.Grammar.{AreColumns, IsKey}
 use Rattle.ddl_columns.proofs.ArgumentLaws.{arguments_law}
 use Rattle.ddl_columns.proofs.ColumnLaws.{columns_law}
 use Rattle.ddl_columns.proofs.KeyLaws.{key_law}
 use Rattle.ddl_columns.proofs.TypeLaws.{type_law}
-use Rattle.ddl_clauses.specs.declared.parts.DictionaryParts.{DictionaryParts}
 use Rattle.ddl_clauses.specs.Clauses.{WrittenFunction, begun_clause}
 use Rattle.ddl_clauses.specs.Grammar.{AreDictionaryClauses, FunctionStops, IsWrittenFunction, NoClauseFollows}
 use Rattle.ddl_clauses.specs.Parts.{dictionary_parts, function_parts}
-use Rattle.ddl_clauses.specs.Reading.{dictionary_clauses_at, function_clauses_at, written_function_at}
+use Rattle.ddl_clauses.specs.Reading.{function_clauses_at, written_function_at}
 use Rattle.ddl_clauses.proofs.ClauseLaws.{clauses_begin, dictionary_clauses_law, function_law}
 use Rattle.ddl_text.specs.declared.statement.Statement.{Statement}
 use Rattle.ddl_text.specs.declared.statement.WrittenName.{WrittenName}
 use Rattle.ddl_text.specs.Statements.{dictionary, function}
-use Rattle.ddl_text.specs.Grammar.{EndsText, IsBegun, IsDictionary, IsEnding, IsFunction, IsNamed, IsOrReplace, IsStatement, StatementStops, is_at_end, is_end}
-use Rattle.ddl_text.specs.Reading.{begin_at, behind_columns_at, dictionary_at, ending_at, function_at, named_at, or_replace_at, statement_at, text_end_at}
+use Rattle.ddl_text.specs.Grammar.{EndsText, IsBegun, IsDictionary, IsEnding, IsFunction, IsOrReplace, IsStatement, StatementStops, is_at_end}
+use Rattle.ddl_text.specs.Reading.{begin_at, behind_columns_at, dictionary_at, ending_at, function_at, or_replace_at, statement_at, text_end_at}
 use Rattle.ddl_text.proofs.Ahead.{asked, asks, end_ahead, end_no_keyword, end_no_sign, keyword_no_end, keyword_no_sign}
 use Rattle.ddl_text.proofs.NameLaws.{cond_bind, named_law, placed}
 

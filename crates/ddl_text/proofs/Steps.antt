@@ -1,10 +1,9 @@
 -- What the calls over a file leave.
-use Rattle.std.proofs.Common.{◌≡◌, ℕ, ◌<◌, Bool, true, false, List, [], ◌∷◌, ◌++◌, Result, Ok, Err, refl, sym, ap, subst, ◌∙◌, inl, inr, arith}
+use Rattle.std.proofs.Common.{◌≡◌, ℕ, ◌<◌, Bool, true, false, List, [], ◌∷◌, ◌++◌, Ok, Err, refl, sym, ap, ◌∙◌, inl, inr, arith}
 use Rattle.std.specs.Prelude.{nat_le}
 use Rattle.std.proofs.lemmas.Bool.Decides.{nat_tests}
 use Rattle.dict_schema.specs.declared.definition.Column.{Column}
 use Rattle.dict_schema.specs.declared.definition.Item.{Item}
-use Rattle.ddl_tokens.specs.declared.fault.SyntaxFault.{SyntaxFault}
 use Rattle.ddl_tokens.specs.declared.fault.ReadFault.{ReadFault}
 use Rattle.ddl_tokens.specs.declared.fault.ReadFault.TheVariants as read
 use Rattle.ddl_tokens.specs.Tokens.{Token}
@@ -13,7 +12,6 @@ use Rattle.ddl_tokens.specs.Laws.{first}
 use Rattle.ddl_tokens.proofs.Verdicts.{judged_found}
 use Rattle.ddl_columns.specs.Reading.{key_at}
 use Rattle.ddl_clauses.specs.declared.parts.DictionaryParts.{DictionaryParts}
-use Rattle.ddl_clauses.specs.declared.parts.Sizes.{Sizes}
 use Rattle.ddl_clauses.specs.Reading.{dictionary_clauses_at}
 use Rattle.ddl_text.specs.declared.fault.FileFault.{FileFault}
 use Rattle.ddl_text.specs.declared.fault.FileFault.TheVariants as file

@@ -4,7 +4,7 @@ use Rattle.dict_schema.specs.declared.definition.Item.{Item}
 use Rattle.dict_schema.specs.Sound.{IsSoundType}
 use Rattle.ddl_tokens.specs.declared.fault.SyntaxFault.{SyntaxFault}
 use Rattle.ddl_tokens.specs.Tokens.{Token}
-use Rattle.ddl_tokens.specs.Laws.{Begins, Grammar, Starts, Stopping, first}
+use Rattle.ddl_tokens.specs.Laws.{Begins, Starts, Stopping, first}
 use Rattle.ddl_tokens.specs.Verdicts.{Verdict, stands, falls, verdict_map, IsLeastOrFalls, VerdictStops}
 use Rattle.ddl_text.specs.declared.fault.DdlFault.{DdlFault}
 use Rattle.ddl_text.specs.declared.fault.DdlRefusal.{DdlRefusal}

@@ -1,4 +1,4 @@
-use Rattle.std.proofs.Common.{◌≡◌, List, Ok, Err, ap, subst, sym}
+use Rattle.std.proofs.Common.{List, Ok, Err, ap, subst, sym}
 use Rattle.dict_schema.specs.declared.definition.Item.{Item}
 use Rattle.ddl_tokens.specs.Tokens.{Token}
 use Rattle.ddl_text.specs.declared.fault.FileFault.{FileFault}

@@ -1,4 +1,4 @@
-use Rattle.std.proofs.Common.{◌≡◌, Bool, List, All, Err, subst, sym}
+use Rattle.std.proofs.Common.{Bool, List, All, Err, subst, sym}
 use Rattle.std.proofs.lemmas.List.Elements.{All-push}
 use Rattle.std.proofs.lemmas.Result.{err_from_is_err_and}
 use Rattle.dict_schema.specs.declared.definition.Item.{Item}

@@ -1,4 +1,4 @@
-use Rattle.std.proofs.Common.{◌≡◌, Bool, List, All, subst, sym}
+use Rattle.std.proofs.Common.{Bool, List, All, subst, sym}
 use Rattle.std.proofs.lemmas.List.Elements.{All-nil}
 use Rattle.dict_schema.specs.declared.definition.Item.{Item}
 use Rattle.dict_schema.specs.Sound.{IsSoundItem}

@@ -2,8 +2,6 @@ use Rattle.std.proofs.Common.{◌≡◌, subst, ap, sym, refl, ◌∙◌, false,
 use Rattle.std.proofs.lemmas.Result.{err_from_is_err_and}
 use Rattle.dict_schema.specs.declared.definition.Item.{Item}
 use Rattle.dict_schema.specs.Sound.{IsSoundItem}
-use Rattle.ddl_text.specs.declared.fault.DdlFault.{DdlFault}
-use Rattle.ddl_text.specs.declared.statement.Statement.{Statement}
 use Rattle.ddl_clauses.specs.declared.parts.Sizes.{Sizes}
 use Rattle.ddl_text.specs.Items.{IsRefusedItem, IsTakenItem, count_of, is_full, sizes_of}
 use Rattle.ddl_text.proofs.Counts.{sound_item}
