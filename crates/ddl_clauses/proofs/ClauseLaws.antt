@@ -11,7 +11,7 @@ use Rattle.ddl_tokens.specs.Letters.{same_letters}
 use Rattle.ddl_tokens.specs.Tokens.{Token}
 use Rattle.ddl_tokens.specs.Reading.{◌>>=◌, is_keyword, is_the_sign, is_word, is_name, is_number, is_string, of_kind, passes}
 use Rattle.ddl_tokens.specs.Laws.{first, Anyhow, Lawful, IsKeyword, IsSign, Then, Either, Made, Optional, OptionalStops}
-use Rattle.ddl_tokens.specs.Lists.{Step, next_once, once_of, kind_at, repeat, BeginsNone}
+use Rattle.ddl_tokens.specs.Lists.{AddsOnce, Many, none, more, Step, has_all, has_number, next_once, once_of, kind_at, repeat, BeginsNone}
 use Rattle.ddl_tokens.proofs.Laws.{Passes, Fails, by_token, bytes, headed, judged_ok, keyword, keywords_apart, made, optional, sign, signs_apart, stopping, test_cases, then, then_after}
 use Rattle.ddl_tokens.proofs.Once.{in_any_order}
 use Rattle.ddl_clauses.specs.declared.clause.Clause.{Clause}
@@ -274,6 +274,17 @@ written_clauses_law {Before = Before} =
     (stopping (λ a own o h x. none_follows a o x) (λ a own o h x. follows_none a o x)
     (in_any_order (kind.Source ∷ kind.Layout ∷ []) (λ t e h. absurd (let x = h in cc)) clause_law
     (λ k a own h. let p = clause_first k a own h in (p.0, p.1, p.2, ap (λ x. Ok x) (kind_of_word k p.0 p.3))) clause_numbered))
+
+-- the clauses begin with a keyword, as some must be there
+pub clauses_begin : (clauses : List Clause) (ts : List Token) → AreDictionaryClauses clauses ts → (t : Token) × (rest : List Token) × (word : List ℕ) × (ts ≡ t ∷ rest) × (is_keyword word t ≡ true)
+unfolding has_all has_number
+clauses_begin clauses ts h = at [] clauses ts h.0 refl h.1 where
+  at : (a b : List Clause) (us : List Token) → Many (AddsOnce clause_number number_of_clause IsDictionaryClause) a b us → a ≡ [] → has_all number_of_clause wanted_clauses b ≡ true
+      → (t : Token) × (rest : List Token) × (word : List ℕ) × (us ≡ t ∷ rest) × (is_keyword word t ≡ true)
+  at a b us (none e k) z w = absurd (let lacks = subst (λ (c : List Clause). has_all number_of_clause wanted_clauses c ≡ true) (sym e ∙ z) w in cc)
+  at a b us (more {own = own} {rest = rest} e x m) z w =
+      let p = clause_first x.kind x.item own x.fits in
+      (p.0, p.1 ++ rest, clause_word x.kind, e ∙ ap (λ (vs : List Token). vs ++ rest) p.2, p.3)
 
 -- ---- a function
 

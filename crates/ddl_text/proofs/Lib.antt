@@ -1,0 +1,7 @@
+mod Ahead
+mod NameLaws
+mod StatementLaws
+mod Same
+mod FileLaws
+pub mod Counts
+mod Steps

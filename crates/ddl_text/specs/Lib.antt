@@ -1,0 +1,7 @@
+-- The definitions that contracts cite.
+pub mod Faults
+pub mod Statements
+pub mod Grammar
+pub mod Reading
+pub mod Items
+pub mod Files
