@@ -1,3 +1,4 @@
 -- The definitions that contracts cite.
 pub mod FindByRange
+pub mod Pieces
 pub mod Points

@@ -1,5 +1,7 @@
 -- Points: numbers counted from the least one on, so that they are natural ones.
-use Rattle.std.specs.Prelude.{◌≡◌, ◌+◌, ◌-◌, ◌^◌, ◌<◌, ◌≤◌, ◌+ℤ◌, ◌≤ℤ◌, ◌<ℤ◌, ℕ, ℤ, pos, negsuc, List, slice_index_or, unsigned_abs}
+use Rattle.std.specs.Prelude.{◌≡◌, ◌+◌, ◌-◌, ◌^◌, ◌<◌, ◌≤◌, ◌+ℤ◌, ◌≤ℤ◌, ◌<ℤ◌, ℕ, ℤ, pos, negsuc, List, Contains, Some, length, slice_get, slice_index, slice_index_or}
+use Rattle.std.specs.Prelude.{◌*◌, unsigned_abs}
+use Rattle.std.specs.List.Sorted.{IsStrictlyIncreasing}
 use Rattle.range_layout.specs.declared.ends.End.{End}
 use Rattle.range_layout.specs.declared.ends.End.TheVariants.{Free, At}
 use Rattle.range_layout.specs.declared.ends.Ends.{Ends}
@@ -30,3 +32,16 @@ past_point (At z) = point_of z + 1
 abbrev pub nth_point : List ℕ → ℕ → ℕ
 nth_point points place = slice_index_or points place (2 ^ 128)
 
+
+-- the range of a row
+abbrev pub range_at : List Ends → ℕ → Ends
+range_at ends row = slice_index_or ends row (record { low = Free; high = Free })
+
+-- the points at which ranges begin, and those behind their ends, rising
+pub record ArePointsOf (ends : List Ends) (points : List ℕ) : Type 0 where
+  pub rises : IsStrictlyIncreasing points
+  pub few : length points ≤ 2 * length ends
+  pub small : (i : ℕ) → i < length points → slice_index points i < 2 ^ 128
+  pub low : (row : ℕ) → row < length ends → Contains points (low_point (range_at ends row).low)
+  pub past : (row : ℕ) → row < length ends → past_point (range_at ends row).high < 2 ^ 128
+      → Contains points (past_point (range_at ends row).high)

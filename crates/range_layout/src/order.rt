@@ -1,6 +1,12 @@
-// The order in which rows are taken.
+// The order in which rows are taken, by their ranks.
+ghost use Rattle.std.specs.Prelude.{◌≡◌, ◌+◌, ◌*◌, ◌%◌, ◌^◌, ◌<◌, ◌≤◌, ℕ, IfOk, length};
+ghost use Rattle.dict_value.specs.declared.value.TheConstants.{MOST_ROWS};
+ghost use Rattle.range_layout.specs.Pieces.{ArePiecesOf, AreRanksOf, piece_at, rank_of};
+ghost use Rattle.range_layout.specs.Points.{range_at};
+
 use crate::ends::{End, Ends};
 use crate::pieces::Piece;
+use crate::points::risen;
 use dict_schema::Strategy;
 use dict_value::NoMemory;
 use std::alloc::Global;
@@ -8,8 +14,13 @@ use std::alloc::Global;
 /// Above every place of a point.
 const ABOVE: u128 = 16_777_216;
 
-/// A row's place among the rows by their starts, then by their ends, then by their numbers.
-fn order_of(strategy: Strategy, range: &Ends, piece: Piece, row: usize) -> u128 {
+/// A row's rank: by its start, then by its end, then by its place.
+fn rank_of(strategy: Strategy, range: &Ends, piece: Piece, row: usize) -> u128
+    requires low { piece.low + 1 ≤ ABOVE }
+    requires high { piece.high ≤ ABOVE }
+    requires row { row < MOST_ROWS }
+    ensures { result ≡ rank_of strategy range.now piece row }
+{
     let start = match range.low {
         End::Free => 0,
         End::At(_) => u128::from(piece.low) + 1,
@@ -24,28 +35,35 @@ fn order_of(strategy: Strategy, range: &Ends, piece: Piece, row: usize) -> u128 
     }
 }
 
-/// The row of such a place.
+/// The row of a rank.
 #[inline(always)]
-pub(crate) fn row_of(order: u128) -> usize {
-    (order % (1 << 32)) as usize
+pub(crate) fn row_of(rank: u128) -> usize
+    ensures { result ≡ rank % 2 ^ 32 }
+{
+    (rank % (1 << 32)) as usize
 }
 
-/// The rows in the order in which they are taken.
-pub(crate) fn orders_of(
+/// The ranks of rows, rising.
+pub(crate) fn ranks_of(
     alloc: Global,
     strategy: Strategy,
     ends: &[Ends],
     pieces: &[Piece],
-) -> Result<Vec<u128>, NoMemory> {
-    let Ok(mut orders) = Vec::with_capacity(alloc, ends.len()) else {
+) -> Result<Vec<u128>, NoMemory>
+    requires rows { length ends.now ≤ MOST_ROWS }
+    requires same { length pieces.now ≡ length ends.now }
+    requires low { (row : ℕ) → (piece_at pieces.now row).low < ABOVE }
+    requires high { (row : ℕ) → (piece_at pieces.now row).high ≤ ABOVE }
+    ensures { IfOk result (λ ranks. AreRanksOf strategy ends.now pieces.now ranks.items) }
+{
+    let Ok(mut ranks) = Vec::with_capacity(alloc, ends.len()) else {
         return Err(NoMemory);
     };
     for row in 0..ends.len() {
-        let order = order_of(strategy, &ends[row], pieces[row], row);
-        if orders.push(order).is_err() {
+        let rank = rank_of(strategy, &ends[row], pieces[row], row);
+        if ranks.push(rank).is_err() {
             return Err(NoMemory);
         }
     }
-    orders.sort_unstable();
-    Ok(orders)
+    Ok(risen(ranks))
 }

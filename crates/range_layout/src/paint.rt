@@ -35,14 +35,14 @@ pub(crate) fn winners_of(
     alloc: Global,
     codes: &[u128],
     pieces: &[Piece],
-    orders: &[u128],
+    ranks: &[u128],
 ) -> Result<Vec<u32>, NoMemory> {
     let Ok(mut winners) = Vec::from_elem(alloc, 0u32, codes.len()) else {
         return Err(NoMemory);
     };
     let mut next = next_of(alloc, codes.len())?;
-    for order in orders {
-        let row = row_of(*order);
+    for rank in ranks {
+        let row = row_of(*rank);
         paint(
             winners.as_mut_slice(),
             next.as_mut_slice(),

@@ -2,7 +2,7 @@
 use crate::cut::cut;
 use crate::ends::{Ends, point_of};
 use crate::index::{Span, index_of};
-use crate::order::orders_of;
+use crate::order::ranks_of;
 use crate::paint::winners_of;
 use crate::pieces::{codes_of, pieces_of};
 use crate::points::points_of;
@@ -50,8 +50,8 @@ impl<S: Counter> Ranged<S> {
         let points = points_of(alloc, ends)?;
         let pieces = pieces_of(alloc, points.as_slice(), numbers.as_slice(), ends)?;
         let codes = codes_of(alloc, pieces.as_slice(), points.len())?;
-        let orders = orders_of(alloc, strategy, ends, pieces.as_slice())?;
-        let taken = winners_of(alloc, codes.as_slice(), pieces.as_slice(), orders.as_slice())?;
+        let ranks = ranks_of(alloc, strategy, ends, pieces.as_slice())?;
+        let taken = winners_of(alloc, codes.as_slice(), pieces.as_slice(), ranks.as_slice())?;
         let index = index_of(
             alloc,
             points.as_slice(),
