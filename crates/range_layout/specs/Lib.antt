@@ -2,3 +2,4 @@
 pub mod FindByRange
 pub mod Pieces
 pub mod Points
+pub mod steps

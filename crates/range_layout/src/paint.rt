@@ -1,5 +1,11 @@
 // Which row is taken from each code on: the codes are painted row by row, the rows that are taken first before the
 // others, and a painted code stays as it is.
+ghost use Rattle.std.specs.Prelude.{◌≡◌, ◌≢◌, ◌+◌, ◌-◌, ◌<◌, ◌≤◌, ◌^◌, ℕ, List, Contains, IfOk, length, slice_index};
+ghost use Rattle.std.specs.List.Sorted.{IsStrictlyIncreasing};
+ghost use Rattle.dict_value.specs.declared.value.TheConstants.{MOST_ROWS};
+ghost use Rattle.range_layout.specs.Pieces.{AreCodesOf, start_of};
+ghost use Rattle.range_layout.specs.steps.Painting.{ArePainted, IsOnePainted, IsPainted, Leads, Skips, TellsFirst, row_at};
+
 use crate::order::row_of;
 use crate::pieces::{Piece, end_of, start_of};
 use crate::points::place_in;
@@ -7,7 +13,16 @@ use dict_value::NoMemory;
 use std::alloc::Global;
 
 /// The first place from one on that may be unpainted. The way to it is made shorter for later ones.
-fn skip(next: &mut [u32], from: usize) -> usize {
+fn skip(next: &mut Vec<u32>, from: usize) -> usize
+    requires leads { Leads next.old.items }
+    requires from { from < length next.old.items }
+    ensures leads { Leads next.new.items }
+    ensures len { length next.new.items ≡ length next.old.items }
+    ensures after { from ≤ result }
+    ensures within { result < length next.new.items }
+    ensures skips { (winners : List ℕ) → Skips winners next.old.items → Skips winners next.new.items }
+    ensures painted { (winners : List ℕ) → Skips winners next.old.items → ArePainted winners from result }
+{
     let mut at = from;
     while next[at] as usize != at {
         let far = next[next[at] as usize];
@@ -17,15 +32,45 @@ fn skip(next: &mut [u32], from: usize) -> usize {
     at
 }
 
+/// Paints one place, if it isn't painted yet.
+fn paint_one(winners: &mut Vec<u32>, next: &mut Vec<u32>, at: usize, row: usize)
+    requires at { at < length winners.old.items }
+    requires row { row < MOST_ROWS }
+    requires small { length winners.old.items < 2 ^ 32 }
+    requires len { length next.old.items ≡ length winners.old.items + 1 }
+    requires leads { Leads next.old.items }
+    requires skips { Skips winners.old.items next.old.items }
+    ensures len { length next.new.items ≡ length next.old.items }
+    ensures painted { IsOnePainted row at winners.old.items winners.new.items }
+    ensures leads { Leads next.new.items }
+    ensures skips { Skips winners.new.items next.new.items }
+{
+    if winners[at] == 0 {
+        winners[at] = (row + 1) as u32;
+    }
+    next[at] = (at + 1) as u32;
+}
+
 /// Paints the codes of a piece that aren't painted yet.
-fn paint(winners: &mut [u32], next: &mut [u32], codes: &[u128], piece: Piece, row: usize) {
+fn paint(winners: &mut Vec<u32>, next: &mut Vec<u32>, codes: &[u128], piece: Piece, row: usize)
+    requires rises { IsStrictlyIncreasing codes.now }
+    requires start { Contains codes.now (start_of piece) }
+    requires row { row < MOST_ROWS }
+    requires small { length codes.now < 2 ^ 32 }
+    requires same { length winners.old.items ≡ length codes.now }
+    requires len { length next.old.items ≡ length codes.now + 1 }
+    requires leads { Leads next.old.items }
+    requires skips { Skips winners.old.items next.old.items }
+    ensures len { length next.new.items ≡ length next.old.items }
+    ensures painted { IsPainted codes.now piece row winners.old.items winners.new.items }
+    ensures leads { Leads next.new.items }
+    ensures skips { Skips winners.new.items next.new.items }
+{
     let end = end_of(piece);
-    let mut at = skip(next, place_in(codes, start_of(piece)));
+    let start = place_in(codes, start_of(piece));
+    let mut at = skip(next, start);
     while at < codes.len() && codes[at] < end {
-        if winners[at] == 0 {
-            winners[at] = (row + 1) as u32;
-        }
-        next[at] = (at + 1) as u32;
+        paint_one(winners, next, at, row);
         at = skip(next, at + 1);
     }
 }
@@ -35,31 +80,38 @@ pub(crate) fn winners_of(
     alloc: Global,
     codes: &[u128],
     pieces: &[Piece],
+    count: usize,
     ranks: &[u128],
-) -> Result<Vec<u32>, NoMemory> {
+) -> Result<Vec<u32>, NoMemory>
+    requires pieces { length pieces.now ≤ MOST_ROWS }
+    requires codes { AreCodesOf pieces.now count codes.now }
+    requires rows { (i : ℕ) → i < length ranks.now → row_at ranks.now i < length pieces.now }
+    ensures len { IfOk result (λ winners. length winners.items ≡ length codes.now) }
+    ensures told { IfOk result (λ winners. (i : ℕ) → i < length codes.now
+        → TellsFirst pieces.now ranks.now (length ranks.now) (slice_index codes.now i) (slice_index winners.items i)) }
+{
     let Ok(mut winners) = Vec::from_elem(alloc, 0u32, codes.len()) else {
         return Err(NoMemory);
     };
     let mut next = next_of(alloc, codes.len())?;
     for rank in ranks {
         let row = row_of(*rank);
-        paint(
-            winners.as_mut_slice(),
-            next.as_mut_slice(),
-            codes,
-            pieces[row],
-            row,
-        );
+        paint(&mut winners, &mut next, codes, pieces[row], row);
     }
     Ok(winners)
 }
 
-/// The numbers from 0 to a count, each of which is its own next one.
-fn next_of(alloc: Global, count: usize) -> Result<Vec<u32>, NoMemory> {
+/// The numbers from 0 to a count, each of which leads to itself.
+fn next_of(alloc: Global, count: usize) -> Result<Vec<u32>, NoMemory>
+    requires { count < 2 ^ 32 - 1 }
+    ensures len { IfOk result (λ next. length next.items ≡ count + 1) }
+    ensures leads { IfOk result (λ next. Leads next.items) }
+    ensures skips { IfOk result (λ next. (winners : List ℕ) → Skips winners next.items) }
+{
     let Ok(mut next) = Vec::with_capacity(alloc, count + 1) else {
         return Err(NoMemory);
     };
-    for place in 0..=count {
+    for place in 0..count + 1 {
         if next.push(place as u32).is_err() {
             return Err(NoMemory);
         }

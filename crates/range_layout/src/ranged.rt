@@ -51,7 +51,7 @@ impl<S: Counter> Ranged<S> {
         let pieces = pieces_of(alloc, points.as_slice(), numbers.as_slice(), ends)?;
         let codes = codes_of(alloc, pieces.as_slice(), points.len())?;
         let ranks = ranks_of(alloc, strategy, ends, pieces.as_slice())?;
-        let taken = winners_of(alloc, codes.as_slice(), pieces.as_slice(), ranks.as_slice())?;
+        let taken = winners_of(alloc, codes.as_slice(), pieces.as_slice(), points.len(), ranks.as_slice())?;
         let index = index_of(
             alloc,
             points.as_slice(),

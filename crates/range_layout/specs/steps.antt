@@ -1,0 +1,2 @@
+-- Relations of the loops.
+pub mod Painting
