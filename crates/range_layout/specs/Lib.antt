@@ -1,5 +1,6 @@
 -- The definitions that contracts cite.
 pub mod FindByRange
+pub mod Halves
 pub mod Pieces
 pub mod Points
 pub mod steps

@@ -1,4 +1,7 @@
 // The place of a point among rising edges, by halves.
+ghost use Rattle.std.specs.Prelude.{◌≡◌, ◌+◌, ◌-◌, ◌<◌, ◌≤◌, ℕ, length};
+ghost use Rattle.range_layout.specs.Halves.{AreHalves, IsCut, Rises};
+
 use dict_value::{Counted, Counter};
 
 /// The place behind the last edge that is at most the point, from one place to another.
@@ -9,7 +12,14 @@ pub(crate) fn cut<S: Counter>(
     end: usize,
     point: u128,
     steps: &mut S,
-) -> usize {
+) -> usize
+    requires order { start ≤ end }
+    requires within { end ≤ length edges.now }
+    ensures after { start ≤ result }
+    ensures before { result ≤ end }
+    ensures cut { Rises edges.now start end → IsCut edges.now start end point result }
+    ensures steps { (s : ℕ) × AreHalves (end - start) s × (S.amount steps.new ≤ S.amount steps.old + s) }
+{
     let mut low = start;
     let mut high = end;
     while low < high {

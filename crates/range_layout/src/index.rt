@@ -1,4 +1,8 @@
 // The points at which the taken row of a key changes.
+ghost use Rattle.std.specs.Prelude.{◌≡◌, ◌≢◌, ◌+◌, ◌-◌, ◌*◌, ◌^◌, ◌<◌, ◌≤◌, ℕ, IfOk, OnOk, length, slice_index};
+ghost use Rattle.dict_value.specs.declared.value.TheConstants.{MOST_ROWS};
+ghost use Rattle.range_layout.specs.steps.Filling.{AddsEdge, AreCodes, AreEdgesOf, AreKeyCodes, AreSpansIn, Keeps, number_at};
+
 use dict_value::{ListOf, NoMemory};
 use std::alloc::Global;
 
@@ -9,7 +13,7 @@ pub(crate) struct Span {
     pub(crate) end: u32,
 }
 
-/// The span of each key, the edges of all keys, and the row that is taken from each edge on.
+/// The span of each key, the edges of all keys, and one more than the row that is taken from each edge on, or 0.
 #[derive(Drop)]
 pub(crate) struct Index {
     pub(crate) spans: ListOf<Span>,
@@ -17,21 +21,35 @@ pub(crate) struct Index {
     pub(crate) winners: ListOf<u32>,
 }
 
-/// The codes of all keys, with the row that is taken from each of them on.
-#[derive(Clone, Copy)]
-pub(crate) struct Line<'a> {
-    pub(crate) points: &'a [u128],
-    pub(crate) codes: &'a [u128],
-    pub(crate) winners: &'a [u32],
-}
-
-/// The row that is taken from the last edge behind a place on, or 0.
-fn last_behind(winners: &[u32], start: usize) -> u32 {
+/// The last of the winners that stand from a place on, or 0.
+fn last_from(winners: &[u32], start: usize) -> u32
+    requires { start ≤ length winners.now }
+    ensures none { start ≡ length winners.now → result ≡ 0 }
+    ensures some { start < length winners.now → result ≡ slice_index winners.now (length winners.now - 1) }
+{
     if winners.len() == start {
         0
     } else {
         winners[winners.len() - 1]
     }
+}
+
+/// Appends an edge to those that stand from a place on, if the row that is taken changes there.
+fn add_edge(
+    start: usize,
+    point: u128,
+    winner: u32,
+    edges: &mut ListOf<u128>,
+    winners: &mut ListOf<u32>,
+) -> Result<(), NoMemory>
+    requires { start ≤ length winners.old }
+    ensures { OnOk result (AddsEdge start point winner edges.old winners.old edges.new winners.new) }
+{
+    if winner == last_from(winners.as_slice(), start) {
+        return Ok(());
+    }
+    edges.push(point)?;
+    winners.push(winner)
 }
 
 /// Appends the edges of a key whose first code, if it has any, is at a place, and answers the place behind its
@@ -44,14 +62,25 @@ fn fill_span(
     from: usize,
     edges: &mut ListOf<u128>,
     winners: &mut ListOf<u32>,
-) -> Result<usize, NoMemory> {
+) -> Result<usize, NoMemory>
+    requires codes { AreCodes points.now codes.now }
+    requires taken { length taken.now ≡ length codes.now }
+    requires from { from ≤ length codes.now }
+    requires before { (i : ℕ) → i < from → number_at codes.now i < number }
+    requires behind { (i : ℕ) → from ≤ i → i < length codes.now → number ≤ number_at codes.now i }
+    requires same { length winners.old ≡ length edges.old }
+    ensures edges { IfOk result (λ to. AreEdgesOf points.now codes.now taken.now from to edges.new winners.new
+        (length edges.old) (length edges.new)) }
+    ensures codes { IfOk result (λ to. AreKeyCodes codes.now number from to) }
+    ensures behind { IfOk result (λ to. (i : ℕ) → to ≤ i → i < length codes.now → number + 1 ≤ number_at codes.now i) }
+    ensures same { IfOk result (λ _. length winners.new ≡ length edges.new) }
+    ensures kept { IfOk result (λ _. Keeps edges.old edges.new × Keeps winners.old winners.new) }
+{
     let start = edges.len();
     let mut at = from;
     while at < codes.len() && codes[at] >> 32 == number as u128 {
-        if taken[at] != last_behind(winners.as_slice(), start) {
-            edges.push(points[(codes[at] % (1 << 32)) as usize])?;
-            winners.push(taken[at])?;
-        }
+        let point = points[(codes[at] % (1 << 32)) as usize];
+        add_edge(start, point, taken[at], edges, winners)?;
         at += 1;
     }
     Ok(at)
@@ -64,7 +93,14 @@ pub(crate) fn index_of(
     codes: &[u128],
     taken: &[u32],
     count: usize,
-) -> Result<Index, NoMemory> {
+) -> Result<Index, NoMemory>
+    requires codes { AreCodes points.now codes.now }
+    requires taken { length taken.now ≡ length codes.now }
+    requires small { length codes.now < 2 ^ 32 }
+    requires numbers { (i : ℕ) → i < length codes.now → number_at codes.now i < count }
+    ensures { IfOk result (λ index. AreSpansIn points.now codes.now taken.now count
+        index.spans index.edges index.winners) }
+{
     let mut spans = ListOf::with_room(alloc, count)?;
     let mut edges = ListOf::new(alloc);
     let mut winners = ListOf::new(alloc);
