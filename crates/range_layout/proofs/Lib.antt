@@ -1,7 +1,12 @@
 -- Lemmas of this crate.
 pub mod Both
+pub mod Counting
+pub mod Covering
+pub mod EndPoints
 pub mod Filling
 pub mod Halving
 pub mod Nths
 pub mod Painting
+pub mod Ranks
 pub mod Rising
+pub mod Taken

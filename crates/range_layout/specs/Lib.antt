@@ -1,6 +1,7 @@
 -- The definitions that contracts cite.
 pub mod FindByRange
 pub mod Halves
+pub mod Kept
 pub mod Pieces
 pub mod Points
 pub mod steps

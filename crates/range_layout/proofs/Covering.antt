@@ -1,0 +1,180 @@
+-- A piece has the last code up to a point where its range holds the point.
+use Rattle.std.specs.List.{slice_get}
+use Rattle.std.specs.Prelude.{Contains}
+use Rattle.std.proofs.Common.{◌≡◌, ◌⊎◌, ℕ, ℤ, ◌+◌, ◌-◌, ◌*◌, ◌/◌, ◌%◌, ◌^◌, ◌<◌, ◌≤◌, List, length, get_or, inl, inr, refl, sym, ◌∙◌, ap, subst, arith}
+use Rattle.std.proofs.lemmas.Bool.{cases_lt}
+use Rattle.std.proofs.lemmas.List.{get_or_default}
+use Rattle.range_layout.specs.FindByRange.{HoldsPoint}
+use Rattle.range_layout.specs.Pieces.{AreCodesOf, ArePiecesOf, Covers, IsBorder, IsPieceOf, end_of, piece_at, start_of}
+use Rattle.range_layout.specs.Points.{ArePointsOf, IsNumber, low_point, nth_point, past_point, point_of, range_at}
+use Rattle.range_layout.specs.declared.ends.Ends.{Ends}
+use Rattle.range_layout.specs.declared.order.TheConstants.{ABOVE}
+use Rattle.range_layout.specs.declared.pieces.Piece.{Piece}
+use Rattle.range_layout.specs.steps.Filling.{AreCodes, AreKeyCodes, IsLastCode, number_at, point_at}
+use Rattle.range_layout.proofs.EndPoints.{open-from, open-to, point-small, started-from, started-to}
+use Rattle.range_layout.proofs.Nths.{nth-less, nth-past, nth-place}
+use Rattle.range_layout.proofs.Rising.{place-of, rises-no_less}
+
+-- what is built of the rows before the index is
+pub record IsLineOf (points numbers : List ℕ) (ends : List Ends) (pieces : List Piece) (codes : List ℕ) : Type 0 where
+  pub points_are : ArePointsOf ends points
+  pub few : length points < ABOVE
+  pub pieces_are : ArePiecesOf points numbers ends pieces
+  pub codes_are : AreCodesOf pieces (length points) codes
+
+split-code : (code number place : ℕ) → place < ABOVE → code ≡ number * 2 ^ 32 + place → (code / 2 ^ 32 ≡ number) × (code % 2 ^ 32 ≡ place)
+split-code code number place l e = (omega (arith, l, e), omega (arith, l, e))
+
+module _ (points numbers : List ℕ) (ends : List Ends) (pieces : List Piece) (codes : List ℕ) (s : IsLineOf points numbers ends pieces codes) where
+  piece-of : (row : ℕ) → row < length pieces → IsPieceOf points (get_or numbers row 0) (range_at ends row) (piece_at pieces row)
+  piece-of row l = let len = s.pieces_are.len in s.pieces_are.each row (omega (arith, l, len))
+
+  -- where the codes of a row's piece stand
+  border-place : (row code place : ℕ) → row < length pieces → IsBorder pieces (length points) row code → place ≤ length points → code ≡ (piece_at pieces row).number * 2 ^ 32 + place
+      → (j : ℕ) × (j < length codes) × (get_or codes j 0 ≡ code) × (number_at codes j ≡ get_or numbers row 0) × (point_at points codes j ≡ nth_point points place)
+  border-place row code place l border w is =
+      let few = s.few in
+      let g = place-of codes code (s.codes_are.each row code l border) in
+      let q = split-code code (piece_at pieces row).number place (omega (arith, w, few)) is in
+      let n : number_at codes g.0 ≡ (piece_at pieces row).number = ap (λ (c : ℕ). c / 2 ^ 32) g.2 ∙ q.0 in
+      let p : get_or codes g.0 0 % 2 ^ 32 ≡ place = ap (λ (c : ℕ). c % 2 ^ 32) g.2 ∙ q.1 in
+      (g.0, g.1, g.2, n ∙ (piece-of row l).same, ap (nth_point points) p)
+
+  -- the codes are those of rising points
+  pub line-codes : AreCodes points codes
+  line-codes = record {
+    points_rise = s.points_are.rises;
+    rises = s.codes_are.rises;
+    within = λ i l.
+        let few = s.few in
+        let o = s.codes_are.origin (get_or codes i 0) (i, l, default i l) in
+        let p = piece-of o.0 o.1 in
+        let w = p.low_within in
+        elim o.2 [
+          | inl e ↦ omega (arith, few, w, e)
+          | inr (inside, e) ↦ omega (arith, few, inside, e)
+        ];
+  }
+    where
+      default : (i : ℕ) → i < length codes → get_or codes i (get_or codes i 0) ≡ get_or codes i 0
+      default i l = get_or_default codes i (get_or codes i 0) 0 l
+
+  -- the number of a code is that of a row's key
+  pub number-origin : (i : ℕ) → i < length codes → (row : ℕ) × (row < length pieces) × (number_at codes i ≡ get_or numbers row 0)
+  number-origin i l =
+      let few = s.few in
+      let o = s.codes_are.origin (get_or codes i 0) (i, l, get_or_default codes i (get_or codes i 0) 0 l) in
+      let p = piece-of o.0 o.1 in
+      let w = p.low_within in
+      let same = p.same in
+      (o.0, o.1, elim o.2 [
+        | inl e ↦ (split-code (get_or codes i 0) (piece_at pieces o.0).number (piece_at pieces o.0).low (omega (arith, few, w)) e).0 ∙ same
+        | inr (inside, e) ↦ (split-code (get_or codes i 0) (piece_at pieces o.0).number (piece_at pieces o.0).high (omega (arith, few, inside)) e).0 ∙ same
+      ])
+
+  module _ (number from to : ℕ) (k : AreKeyCodes codes number from to) (row : ℕ) (l : row < length pieces) where
+    abbrev piece : Piece
+    piece = piece_at pieces row
+
+    starts-at : get_or numbers row 0 ≡ number → (j : ℕ) × (from ≤ j) × (j < to) × (get_or codes j 0 ≡ start_of piece) × (point_at points codes j ≡ low_point (range_at ends row).low)
+    starts-at own =
+        let p = piece-of row l in
+        let w = p.low_within in
+        let b = border-place row (start_of piece) piece.low l (inl refl) (omega (arith, w)) refl in
+        let in_range = k.all b.0 b.1 (b.3 ∙ own) in
+        (b.0, in_range.0, in_range.1, b.2, b.4 ∙ p.low_is)
+
+    ends-at : get_or numbers row 0 ≡ number → piece.high < length points → (j : ℕ) × (from ≤ j) × (j < to) × (get_or codes j 0 ≡ end_of piece) × (point_at points codes j ≡ past_point (range_at ends row).high)
+    ends-at own inside =
+        let p = piece-of row l in
+        let b = border-place row (end_of piece) piece.high l (inr (inside, refl)) (omega (arith, inside)) refl in
+        let in_range = k.all b.0 b.1 (b.3 ∙ own) in
+        (b.0, in_range.0, in_range.1, b.2, b.4 ∙ p.high_is)
+
+    -- no code is reached by the point
+    pub none-holds : (point : ℤ) → IsNumber point → ((j : ℕ) → from ≤ j → j < to → point_of point < point_at points codes j) → get_or numbers row 0 ≡ number → ¬ (HoldsPoint (range_at ends row) point)
+    none-holds point z none own holds =
+        let p = piece-of row l in
+        let low = started-to (range_at ends row).low point p.low_fits z holds.0 in
+        let a = starts-at own in
+        let u = none a.0 a.1 a.2 in
+        let e = a.4 in
+        omega (arith, low, u, e)
+
+    module _ (point : ℤ) (z : IsNumber point) (i : ℕ) (last : IsLastCode points codes from to (point_of point) i) where
+      at-number : number_at codes i ≡ number
+      at-number = k.same i last.after last.before
+
+      reached-place : (j : ℕ) → from ≤ j → j < to → point_at points codes j ≤ point_of point → j ≤ i
+      reached-place j a b h = elim (cases_lt i j) [
+        | inl less ↦ let u = last.last j less b in absurd (omega (arith, u, h))
+        | inr most ↦ most
+      ]
+
+      pub covers-to : get_or numbers row 0 ≡ number → HoldsPoint (range_at ends row) point → Covers pieces row (get_or codes i 0)
+      covers-to own holds =
+          let p = piece-of row l in
+          let low = started-to (range_at ends row).low point p.low_fits z holds.0 in
+          let high = open-to (range_at ends row).high point p.high_fits z holds.1 in
+          let a = starts-at own in
+          let ea = a.4 in
+          let j = reached-place a.0 a.1 a.2 (omega (arith, low, ea)) in
+          let within = k.within in
+          let before = last.before in
+          let u = rises-no_less codes s.codes_are.rises a.0 i j (omega (arith, within, before)) in
+          let is = a.3 in
+          let reached = last.reached in
+          let eh = p.high_is in
+          let lower = nth-place points s.points_are.rises s.points_are.small (get_or codes i 0 % 2 ^ 32) piece.high (omega (arith, reached, high, eh)) p.high_within in
+          let n = at-number in
+          let same = p.same in
+          (l, omega (arith, u, is), omega (arith, lower, n, own, same))
+
+      pub number-covered : Covers pieces row (get_or codes i 0) → get_or numbers row 0 ≡ number
+      number-covered (_, above, below) =
+          let p = piece-of row l in
+          let few = s.few in
+          let wl = p.low_within in
+          let wh = p.high_within in
+          let n = at-number in
+          let same = p.same in
+          omega (arith, above, below, few, wl, wh, n, same)
+
+      pub covers-from : Covers pieces row (get_or codes i 0) → HoldsPoint (range_at ends row) point
+      covers-from (w, above, below) =
+          let p = piece-of row l in
+          let own = number-covered (w, above, below) in
+          let few = s.few in
+          let wl = p.low_within in
+          let n = at-number in
+          let same = p.same in
+          let reached = last.reached in
+          let within = k.within in
+          let before = last.before in
+          let el = p.low_is in
+          let eh = p.high_is in
+          let inside = line-codes.within i (omega (arith, within, before)) in
+          let low_place : piece.low ≤ get_or codes i 0 % 2 ^ 32 = omega (arith, above, n, own, same, few, wl) in
+          let low : low_point (range_at ends row).low ≤ point_of point = elim (cases_lt piece.low (get_or codes i 0 % 2 ^ 32)) [
+            | inl less ↦ let u = nth-less points s.points_are.rises piece.low (get_or codes i 0 % 2 ^ 32) less inside in omega (arith, u, el, reached)
+            | inr most ↦
+                let e : get_or codes i 0 % 2 ^ 32 ≡ piece.low = omega (arith, most, low_place) in
+                let q : point_at points codes i ≡ nth_point points piece.low = ap (nth_point points) e in
+                omega (arith, q, el, reached)
+          ] in
+          let high : point_of point < past_point (range_at ends row).high = elim (cases_lt (point_of point) (past_point (range_at ends row).high)) [
+            | inl less ↦ less
+            | inr most ↦
+                let small = point-small point z in
+                let inner : piece.high < length points = elim (cases_lt piece.high (length points)) [
+                  | inl less ↦ less
+                  | inr end ↦ let q = nth-past points piece.high end in absurd (omega (arith, q, eh, most, small))
+                ] in
+                let b = ends-at own inner in
+                let eb = b.4 in
+                let is = b.3 in
+                let j = reached-place b.0 b.1 b.2 (omega (arith, eb, most)) in
+                let u = rises-no_less codes s.codes_are.rises b.0 i j (omega (arith, within, before)) in
+                absurd (omega (arith, u, is, below))
+          ] in
+          (started-from (range_at ends row).low point p.low_fits z low, open-from (range_at ends row).high point p.high_fits z high)

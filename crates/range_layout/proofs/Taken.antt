@@ -1,0 +1,125 @@
+-- The first rank whose piece has a code is that of the row that is taken.
+use Rattle.std.specs.List.{slice_get}
+use Rattle.std.specs.Prelude.{Contains}
+use Rattle.std.proofs.Common.{◌≡◌, ◌⊎◌, ℕ, zero, suc, ℤ, ◌+◌, ◌-◌, ◌*◌, ◌/◌, ◌%◌, ◌^◌, ◌<◌, ◌≤◌, List, Option, Some, None, length, get_or, inl, inr, refl, sym, ◌∙◌, ap, subst, arith}
+use Rattle.std.proofs.lemmas.Bool.{cases_lt}
+use Rattle.std.proofs.lemmas.List.{get_or_default}
+use Rattle.std.proofs.lemmas.Option.{get_or_from_slice_get, slice_get-get_or, slice_get_within}
+use Rattle.dict_schema.specs.declared.definition.Strategy.{Strategy}
+use Rattle.dict_schema.specs.declared.definition.Strategy.TheVariants.{Min, Max}
+use Rattle.dict_value.specs.FindByKey.{HasKeyAt}
+use Rattle.dict_value.specs.declared.value.Value.{Value}
+use Rattle.range_layout.specs.FindByRange.{AreRowsWith, FindsByRange, HasRangeAt, HoldsPoint, Precedes}
+use Rattle.range_layout.specs.Kept.{IsSpanOf, row_told}
+use Rattle.range_layout.specs.Pieces.{AreRanksOf, Covers, piece_at, rank_of}
+use Rattle.range_layout.specs.Points.{IsNumber, point_of, range_at}
+use Rattle.range_layout.specs.declared.ends.End.TheVariants.{Free}
+use Rattle.range_layout.specs.declared.ends.Ends.{Ends}
+use Rattle.range_layout.specs.declared.index.Span.{Span}
+use Rattle.range_layout.specs.declared.order.TheConstants.{ABOVE}
+use Rattle.range_layout.specs.declared.pieces.Piece.{Piece}
+use Rattle.range_layout.specs.steps.Filling.{AreKeyCodes, IsLastCode, IsSpanIn}
+use Rattle.range_layout.specs.steps.Painting.{TellsFirst, row_at}
+use Rattle.range_layout.proofs.Counting.{few-codes}
+use Rattle.range_layout.proofs.Covering.{IsLineOf, covers-from, covers-to, none-holds, number-covered}
+use Rattle.range_layout.proofs.Ranks.{rank-less}
+use Rattle.range_layout.proofs.Rising.{place-of, rises-no_less}
+
+-- the number is that of a key
+pub record IsNumberOf (keys : List (List Value)) (numbers : List ℕ) (key : List Value) (number : ℕ) : Type 0 where
+  pub own : (row : ℕ) → row < length keys → get_or numbers row 0 ≡ number → HasKeyAt keys key row
+  pub mine : (row : ℕ) → HasKeyAt keys key row → get_or numbers row 0 ≡ number
+
+rank-row : (strategy : Strategy) (range : Ends) (piece : Piece) (row : ℕ) → row < 2 ^ 32 → rank_of strategy range piece row % 2 ^ 32 ≡ row
+rank-row Min range piece row l = omega (arith, l)
+rank-row Max range piece row l = omega (arith, l)
+
+module _ (keys : List (List Value)) (points numbers : List ℕ) (ends : List Ends) (pieces : List Piece) (codes ranks : List ℕ) (strategy : Strategy) (s : IsLineOf points numbers ends pieces codes)
+    (r : AreRanksOf strategy ends pieces ranks) (same : length ends ≡ length keys) (rows_few : length ends < 2 ^ 32) where
+  range-here : (place : ℕ) (range : Ends) → slice_get ends place ≡ Some range → range_at ends place ≡ range
+  range-here place range is = get_or_from_slice_get ends place range (record { low = Free; high = Free }) is
+
+  -- where the rank of a row stands
+  rank-place : (row : ℕ) → row < length pieces → (i : ℕ) × (i < length ranks) × (get_or ranks i 0 ≡ rank_of strategy (range_at ends row) (piece_at pieces row) row) × (row_at ranks i ≡ row)
+  rank-place row l =
+      let len = s.pieces_are.len in
+      let g = place-of ranks (rank_of strategy (range_at ends row) (piece_at pieces row) row) (r.each row l) in
+      let m = rank-row strategy (range_at ends row) (piece_at pieces row) row (omega (arith, l, len, rows_few)) in
+      (g.0, g.1, g.2, ap (λ (n : ℕ). n % 2 ^ 32) g.2 ∙ m)
+
+  rank-at : (i : ℕ) → i < length ranks → get_or ranks i 0 ≡ rank_of strategy (range_at ends (row_at ranks i)) (piece_at pieces (row_at ranks i)) (row_at ranks i)
+  rank-at i l =
+      let len = s.pieces_are.len in
+      let o = r.origin (get_or ranks i 0) (i, l, get_or_default ranks i (get_or ranks i 0) 0 l) in
+      let w = o.1 in
+      let m = rank-row strategy (range_at ends o.0) (piece_at pieces o.0) o.0 (omega (arith, w, len, rows_few)) in
+      let e : row_at ranks i ≡ o.0 = ap (λ (n : ℕ). n % 2 ^ 32) o.2 ∙ m in
+      subst (λ k. get_or ranks i 0 ≡ rank_of strategy (range_at ends k) (piece_at pieces k) k) (sym e) o.2
+
+  -- the rows of ranks are rows
+  pub rank-within : (i : ℕ) → i < length ranks → row_at ranks i < length pieces
+  rank-within i l =
+      let len = s.pieces_are.len in
+      let o = r.origin (get_or ranks i 0) (i, l, get_or_default ranks i (get_or ranks i 0) 0 l) in
+      let w = o.1 in
+      let m = rank-row strategy (range_at ends o.0) (piece_at pieces o.0) o.0 (omega (arith, w, len, rows_few)) in
+      let e : row_at ranks i ≡ o.0 = ap (λ (n : ℕ). n % 2 ^ 32) o.2 ∙ m in
+      omega (arith, e, w)
+
+  module _ (key : List Value) (number : ℕ) (n : IsNumberOf keys numbers key number) (from to : ℕ) (k : AreKeyCodes codes number from to) where
+    row-of : (place : ℕ) → HasKeyAt keys key place → place < length pieces
+    row-of place has =
+        let l = slice_get_within keys place key has in
+        let len = s.pieces_are.len in
+        omega (arith, l, len, same)
+
+    pub finds-none : (point : ℤ) → IsNumber point → ((j : ℕ) → from ≤ j → j < to → point_of point < Rattle.range_layout.specs.steps.Filling.point_at points codes j) → FindsByRange keys ends strategy key point None
+    finds-none point z none = λ place range has holds.
+        none-holds points numbers ends pieces codes s number from to k place (row-of place has.0) point z none (n.mine place has.0)
+        (subst (λ (q : Ends). HoldsPoint q point) (sym (range-here place range has.1)) holds)
+
+    module _ (point : ℤ) (z : IsNumber point) (i : ℕ) (last : IsLastCode points codes from to (point_of point) i) where
+      covered : (place : ℕ) (range : Ends) → HasRangeAt keys ends key place range → HoldsPoint range point → Covers pieces place (get_or codes i 0)
+      covered place range has holds =
+          covers-to points numbers ends pieces codes s number from to k place (row-of place has.0) point z i last (n.mine place has.0)
+          (subst (λ (q : Ends). HoldsPoint q point) (sym (range-here place range has.1)) holds)
+
+      pub finds-first : (winner : ℕ) → TellsFirst pieces ranks (length ranks) (get_or codes i 0) winner → FindsByRange keys ends strategy key point (row_told winner)
+      finds-first winner (inl (zero_winner, none)) =
+          subst (λ w. FindsByRange keys ends strategy key point (row_told w)) (sym zero_winner) (λ place range has holds.
+            let c = covered place range has holds in
+            let p = rank-place place (row-of place has.0) in
+            none p.0 p.1 (subst (λ q. Covers pieces q (get_or codes i 0)) (sym p.3) c))
+      finds-first winner (inr (at, less, is, covers, first)) =
+          let row = row_at ranks at in
+          let w = covers.0 in
+          let len = s.pieces_are.len in
+          let own = number-covered points numbers ends pieces codes s number from to k row w point z i last covers in
+          let has = n.own row (omega (arith, w, len, same)) own in
+          let here : slice_get ends row ≡ Some (range_at ends row) = slice_get-get_or ends row (record { low = Free; high = Free }) (omega (arith, w, len)) in
+          let e : winner ≡ suc row = omega (arith, is) in
+          subst (λ q. FindsByRange keys ends strategy key point (row_told q)) (sym e) (record {
+            range = range_at ends row;
+            here = (has, here);
+            holds = covers-from points numbers ends pieces codes s number from to k row w point z i last covers;
+            first = λ other before other_has holds precedes.
+                let c = covered other before other_has holds in
+                let p = rank-place other (row-of other other_has.0) in
+                let mine = rank-at at less in
+                let theirs = p.2 in
+                let other_range = range-here other before other_has.1 in
+                let wo = row-of other other_has.0 in
+                let lower = rank-less points s.points_are.rises s.points_are.small strategy (range_at ends other) (range_at ends row) (get_or numbers other 0) (get_or numbers row 0) (piece_at pieces other) (piece_at pieces row)
+                    other row s.few (omega (arith, wo, len, rows_few)) (omega (arith, w, len, rows_few)) (s.pieces_are.each other (omega (arith, wo, len))) (s.pieces_are.each row (omega (arith, w, len)))
+                    (subst (λ (q : Ends). Precedes strategy q other (range_at ends row) row) (sym other_range) precedes) in
+                elim (cases_lt p.0 at) [
+                  | inl earlier ↦ first p.0 earlier (subst (λ q. Covers pieces q (get_or codes i 0)) (sym p.3) c)
+                  | inr most ↦
+                      let u = rises-no_less ranks r.rises at p.0 most p.1 in
+                      omega (arith, u, lower, mine, theirs)
+                ];
+          })
+
+    module _ (taken edges winners : List ℕ) (t : (i : ℕ) → i < length codes → TellsFirst pieces ranks (length ranks) (get_or codes i 0) (get_or taken i 0)) where
+      pub span-of : (span : Span) → (is : IsSpanIn points codes taken edges winners number span) → is.from ≡ from → is.to ≡ to → IsSpanOf keys ends strategy edges winners key span
+      span-of span is ef et = ?
