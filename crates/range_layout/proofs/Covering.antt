@@ -59,9 +59,9 @@ module _ (points numbers : List ℕ) (ends : List Ends) (pieces : List Piece) (c
       default : (i : ℕ) → i < length codes → get_or codes i (get_or codes i 0) ≡ get_or codes i 0
       default i l = get_or_default codes i (get_or codes i 0) 0 l
 
-  -- the number of a code is that of a row's key
-  pub number-origin : (i : ℕ) → i < length codes → (row : ℕ) × (row < length pieces) × (number_at codes i ≡ get_or numbers row 0)
-  number-origin i l =
+  -- a code is one of a row's, whose key has its number
+  pub code-origin : (i : ℕ) → i < length codes → (row : ℕ) × (row < length pieces) × (number_at codes i ≡ get_or numbers row 0) × IsBorder pieces (length points) row (get_or codes i 0)
+  code-origin i l =
       let few = s.few in
       let o = s.codes_are.origin (get_or codes i 0) (i, l, get_or_default codes i (get_or codes i 0) 0 l) in
       let p = piece-of o.0 o.1 in
@@ -70,7 +70,7 @@ module _ (points numbers : List ℕ) (ends : List Ends) (pieces : List Piece) (c
       (o.0, o.1, elim o.2 [
         | inl e ↦ (split-code (get_or codes i 0) (piece_at pieces o.0).number (piece_at pieces o.0).low (omega (arith, few, w)) e).0 ∙ same
         | inr (inside, e) ↦ (split-code (get_or codes i 0) (piece_at pieces o.0).number (piece_at pieces o.0).high (omega (arith, few, inside)) e).0 ∙ same
-      ])
+      ], o.2)
 
   module _ (number from to : ℕ) (k : AreKeyCodes codes number from to) (row : ℕ) (l : row < length pieces) where
     abbrev piece : Piece

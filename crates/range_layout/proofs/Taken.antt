@@ -21,7 +21,7 @@ use Rattle.range_layout.specs.declared.pieces.Piece.{Piece}
 use Rattle.range_layout.specs.steps.Filling.{AreKeyCodes, IsLastCode, IsSpanIn}
 use Rattle.range_layout.specs.steps.Painting.{TellsFirst, row_at}
 use Rattle.range_layout.proofs.Counting.{few-codes}
-use Rattle.range_layout.proofs.Covering.{IsLineOf, covers-from, covers-to, none-holds, number-covered}
+use Rattle.range_layout.proofs.Covering.{IsLineOf, code-origin, covers-from, covers-to, none-holds, number-covered}
 use Rattle.range_layout.proofs.Ranks.{rank-less}
 use Rattle.range_layout.proofs.Rising.{place-of, rises-no_less}
 
@@ -120,6 +120,36 @@ module _ (keys : List (List Value)) (points numbers : List ℕ) (ends : List End
                 ];
           })
 
-    module _ (taken edges winners : List ℕ) (t : (i : ℕ) → i < length codes → TellsFirst pieces ranks (length ranks) (get_or codes i 0) (get_or taken i 0)) where
-      pub span-of : (span : Span) → (is : IsSpanIn points codes taken edges winners number span) → is.from ≡ from → is.to ≡ to → IsSpanOf keys ends strategy edges winners key span
-      span-of span is ef et = ?
+  -- the span of a key's codes is one of the key
+  pub span-of : (key : List Value) (number : ℕ) → IsNumberOf keys numbers key number → (taken edges winners : List ℕ) → ((i : ℕ) → i < length codes → TellsFirst pieces ranks (length ranks) (get_or codes i 0) (get_or taken i 0))
+      → (span : Span) → IsSpanIn points codes taken edges winners number span → IsSpanOf keys ends strategy edges winners key span
+  span-of key number n taken edges winners t span is =
+      let k = is.codes_are in
+      let e = is.edges_are in
+      let len = s.pieces_are.len in
+      let within = k.within in
+      let told : (point : ℤ) (i : ℕ) → IsNumber point → IsLastCode points codes is.from is.to (point_of point) i → FindsByRange keys ends strategy key point (row_told (get_or taken i 0)) = λ point i z last.
+          let before = last.before in
+          finds-first key number n is.from is.to k point z i last (get_or taken i 0) (t i (omega (arith, before, within))) in
+      record {
+        order = e.order;
+        within = is.within;
+        few = λ rows are.
+            let few = e.few in
+            let u = few-codes pieces rows codes (length points) is.from is.to s.codes_are.rises within (λ i a b.
+              let o = code-origin points numbers ends pieces codes s i (omega (arith, b, within)) in
+              let w = o.1 in
+              let has = n.own o.0 (omega (arith, w, len, same)) (sym o.2 ∙ k.same i a b) in
+              (o.0, (are.each o.0).1 has, o.3)) in
+            omega (arith, few, u);
+        rises = e.rises;
+        first = e.first;
+        changes = e.changes;
+        before = λ point z lower. elim (e.before (point_of point) lower) [
+          | inl none ↦ finds-none key number n is.from is.to k point z none
+          | inr (i, last, zero_taken) ↦ subst (λ w. FindsByRange keys ends strategy key point (row_told w)) zero_taken (told point i z last)
+        ];
+        on = λ point i z a b reached next.
+            let o = e.on (point_of point) i a b reached next in
+            subst (λ w. FindsByRange keys ends strategy key point (row_told w)) (sym o.2) (told point o.0 z o.1);
+      }

@@ -1,5 +1,5 @@
 -- What is kept of a list of keys, each with its range.
-use Rattle.std.specs.Prelude.{◌≡◌, ◌≢◌, ◌+◌, ◌-◌, ◌*◌, ◌<◌, ◌≤◌, ℕ, zero, suc, ℤ, List, Option, Some, None, length, slice_get, slice_index}
+use Rattle.std.specs.Prelude.{◌≡◌, ◌≢◌, ◌+◌, ◌-◌, ◌*◌, ◌^◌, ◌<◌, ◌≤◌, ◌⊎◌, ℕ, zero, suc, ℤ, List, Option, Some, None, length, slice_get, slice_index}
 use Rattle.dict_schema.specs.declared.definition.Strategy.{Strategy}
 use Rattle.dict_value.specs.FindByKey.{IsLeastPlace}
 use Rattle.dict_value.specs.declared.value.Value.{Value}
@@ -34,15 +34,27 @@ pub record IsSpanOf (keys : List (List Value)) (ends : List Ends) (strategy : St
       → slice_index edges i ≤ point_of point → (i + 1 < span.end → point_of point < slice_index edges (i + 1))
       → FindsByRange keys ends strategy key point (row_told (slice_index winners i))
 
--- a table of the keys, and a span of each at its least place
+-- A table of the keys, and a span of each at its least place
 pub record IsRangedOf (keys : List (List Value)) (ends : List Ends) (strategy : Strategy) (table : Complex)
     (spans : List Span) (edges winners : List ℕ) : Type 0 where
   pub table_is : IsKeyTableOf keys table.bytes table.entries table.cells.items
   pub each : (key : List Value) (place : ℕ) → IsLeastPlace keys key place
       → (place < length spans) × IsSpanOf keys ends strategy edges winners key (span_at spans place)
 
--- a search is safe where spans lie among the edges
+-- A search is safe where spans lie among the edges
 pub record AreSpansOver (spans : List Span) (edges winners : List ℕ) : Type 0 where
   pub same : length winners ≡ length edges
   pub order : (i : ℕ) → i < length spans → (span_at spans i).start ≤ (span_at spans i).end
   pub within : (i : ℕ) → i < length spans → (span_at spans i).end ≤ length edges
+
+-- what a search among the edges of a span tells: none where the point is before them, and else the winner of the last
+-- edge that it reaches
+abbrev pub TellsIn : List ℕ → List ℕ → Span → ℕ → ℕ → Type 0
+TellsIn edges winners span point winner =
+    ((winner ≡ 0) × (span.start < span.end → point < slice_index edges span.start))
+    ⊎ ((i : ℕ) × (span.start ≤ i) × (i < span.end) × (slice_index edges i ≤ point)
+    × (i + 1 < span.end → point < slice_index edges (i + 1)) × (winner ≡ slice_index winners i))
+
+-- so few steps for so many rows with the key: none where there are none
+abbrev pub AreFew : ℕ → ℕ → Type 0
+AreFew rows steps = (steps ≡ 0) ⊎ (2 ^ steps ≤ 16 * rows)

@@ -1,4 +1,15 @@
 // Rows by a key and a point.
+ghost use Rattle.std.specs.Prelude.{◌≡◌, ◌+◌, ◌-◌, ◌<◌, ◌≤◌, ℕ, None, List, IfOk, IfSome, MatchOption, length, slice_index};
+ghost use Rattle.dict_schema.specs.declared.definition.Strategy.{Strategy as StrategyOf};
+ghost use Rattle.dict_value.specs.FindByKey.{HasKeyAt, IsLeastPlace};
+ghost use Rattle.dict_value.specs.declared.value.TheConstants.{MOST_ROWS};
+ghost use Rattle.dict_value.specs.declared.value.Value.{Value};
+ghost use Rattle.hashed_layout.specs.KeyTables.{IsKeyTableOf};
+ghost use Rattle.range_layout.specs.FindByRange.{AreRowsWith, FindsByRange};
+ghost use Rattle.range_layout.specs.Halves.{AreHalves, Rises};
+ghost use Rattle.range_layout.specs.Kept.{AreFew, AreSpansOver, IsRangedOf, IsSpanOf, TellsIn};
+ghost use Rattle.range_layout.specs.declared.ends.Ends.{Ends as EndsOf};
+
 use crate::cut::cut;
 use crate::ends::{Ends, point_of};
 use crate::index::{Span, index_of};
@@ -19,10 +30,16 @@ pub struct Ranged<S> {
     spans: Counted<Span, S>,
     edges: Counted<u128, S>,
     winners: Counted<u32, S>,
+    ghost sound: { AreSpansOver spans edges winners },
 }
 
 /// The number of each row's key: the least place with it.
-fn numbers_of(alloc: Global, table: &Complex, keys: &[KeyList]) -> Result<Vec<u32>, NoMemory> {
+fn numbers_of(alloc: Global, table: &Complex, keys: &[KeyList]) -> Result<Vec<u32>, NoMemory>
+    requires { IsKeyTableOf keys.now table.now.bytes table.now.entries table.now.cells.items }
+    ensures len { IfOk result (λ numbers. length numbers.items ≡ length keys.now) }
+    ensures least { IfOk result (λ numbers. (row : ℕ) (key : List Value) → HasKeyAt keys.now key row
+        → IsLeastPlace keys.now key (slice_index numbers.items row)) }
+{
     let Ok(mut numbers) = Vec::with_capacity(alloc, keys.len()) else {
         return Err(NoMemory);
     };
@@ -44,14 +61,25 @@ impl<S: Counter> Ranged<S> {
         keys: &[KeyList],
         ends: &[Ends],
         strategy: Strategy,
-    ) -> Result<Ranged<S>, NoMemory> {
+    ) -> Result<Ranged<S>, NoMemory>
+        requires rows { length keys.now ≤ MOST_ROWS }
+        requires same { length ends.now ≡ length keys.now }
+        ensures { IfOk result (λ ranged. IsRangedOf keys.now ends.now strategy
+            ranged.keys ranged.spans ranged.edges ranged.winners) }
+    {
         let table = Complex::build(alloc, keys)?;
         let numbers = numbers_of(alloc, &table, keys)?;
         let points = points_of(alloc, ends)?;
         let pieces = pieces_of(alloc, points.as_slice(), numbers.as_slice(), ends)?;
         let codes = codes_of(alloc, pieces.as_slice(), points.len())?;
         let ranks = ranks_of(alloc, strategy, ends, pieces.as_slice())?;
-        let taken = winners_of(alloc, codes.as_slice(), pieces.as_slice(), points.len(), ranks.as_slice())?;
+        let taken = winners_of(
+            alloc,
+            codes.as_slice(),
+            pieces.as_slice(),
+            points.len(),
+            ranks.as_slice(),
+        )?;
         let index = index_of(
             alloc,
             points.as_slice(),
@@ -67,25 +95,58 @@ impl<S: Counter> Ranged<S> {
         })
     }
 
-    /// The row with the key whose range holds the point, of several the one that no other precedes, without
-    /// taking memory.
-    pub fn find(&self, key: &KeyList, point: i128, steps: &mut S) -> Option<u32> {
-        let number = self.keys.find(key)? as usize;
-        if number >= self.spans.len() {
-            return None;
-        }
-        let span = self.spans.at(number, steps);
-        let place = cut(
-            &self.edges,
-            span.start as usize,
-            span.end as usize,
-            point_of(point),
-            steps,
-        );
-        if place == span.start as usize {
-            return None;
-        }
-        let winner = self.winners.at(place - 1, steps);
+    /// The row with the key whose range holds the point, of several the one that no other precedes: in steps of
+    /// which two to their number is at most sixteen times the rows with the key, and without taking memory.
+    pub fn find(&self, key: &KeyList, point: i128, steps: &mut S) -> Option<u32>
+        ensures found { (keys : List (List Value)) (ends : List EndsOf) (strategy : StrategyOf)
+            → IsRangedOf keys ends strategy self.now.keys self.now.spans self.now.edges self.now.winners
+            → FindsByRange keys ends strategy key.now point result }
+        ensures steps { (keys : List (List Value)) (ends : List EndsOf) (strategy : StrategyOf)
+            → IsRangedOf keys ends strategy self.now.keys self.now.spans self.now.edges self.now.winners
+            → (rows : List ℕ) → AreRowsWith keys key.now rows
+            → (s : ℕ) × AreFew (length rows) s × (S.amount steps.new ≤ S.amount steps.old + s) }
+    {
+        let span = self.span_of(key, steps)?;
+        let winner = self.winner_in(span, point_of(point), steps);
         if winner == 0 { None } else { Some(winner - 1) }
+    }
+
+    /// The span of a key.
+    #[inline(always)]
+    fn span_of(&self, key: &KeyList, steps: &mut S) -> Option<Span>
+        ensures order { IfSome result (λ span. span.start ≤ span.end) }
+        ensures within { IfSome result (λ span. span.end ≤ length self.now.edges) }
+        ensures found { (keys : List (List Value)) (ends : List EndsOf) (strategy : StrategyOf)
+            → IsRangedOf keys ends strategy self.now.keys self.now.spans self.now.edges self.now.winners
+            → MatchOption result ((place : ℕ) → ¬ (HasKeyAt keys key.now place))
+            (λ span. ((place : ℕ) × HasKeyAt keys key.now place)
+            × IsSpanOf keys ends strategy self.now.edges self.now.winners key.now span) }
+        ensures none { result ≡ None → S.amount steps.new ≤ S.amount steps.old }
+        ensures steps { S.amount steps.new ≤ S.amount steps.old + 1 }
+    {
+        let place = self.keys.find(key)? as usize;
+        if place < self.spans.len() {
+            Some(self.spans.at(place, steps))
+        } else {
+            None
+        }
+    }
+
+    /// One more than the row that is taken at a point, or 0.
+    #[inline(always)]
+    fn winner_in(&self, span: Span, point: u128, steps: &mut S) -> u32
+        requires order { span.start ≤ span.end }
+        requires within { span.end ≤ length self.now.edges }
+        ensures told { Rises self.now.edges span.start span.end
+            → TellsIn self.now.edges self.now.winners span point result }
+        ensures steps { (s : ℕ) × AreHalves (span.end - span.start) s
+            × (S.amount steps.new ≤ S.amount steps.old + (s + 1)) }
+    {
+        let start = span.start as usize;
+        let place = cut(&self.edges, start, span.end as usize, point, steps);
+        if place == start {
+            return 0;
+        }
+        self.winners.at(place - 1, steps)
     }
 }
