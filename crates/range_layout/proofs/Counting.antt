@@ -29,11 +29,11 @@ in-tail y list x ne (suc k, l, e) = (k, omega (arith, l), e)
 
 -- the numbers but for the one at a place
 leave-out : (ℕ → ℕ) → ℕ → ℕ → ℕ
-leave-out f i k = elim (cases_lt k i) [ | inl less ↦ f k | inr most ↦ f (k + 1) ]
+leave-out f i k = elim (cases_lt k i) [ inl less ↦ f k | inr most ↦ f (k + 1) ]
 
 left-out : (f : ℕ → ℕ) (i k : ℕ) → ((k < i) × (leave-out f i k ≡ f k)) ⊎ ((i ≤ k) × (leave-out f i k ≡ f (k + 1)))
 unfolding leave-out
-left-out f i k = elim (cases_lt k i) as (λ q. ((k < i) × ((elim q as (λ _. ℕ) [ | inl less ↦ f k | inr most ↦ f (k + 1) ]) ≡ f k)) ⊎ ((i ≤ k) × ((elim q as (λ _. ℕ) [ | inl less ↦ f k | inr most ↦ f (k + 1) ]) ≡ f (k + 1)))) [
+left-out f i k = elim (cases_lt k i) as (λ q. ((k < i) × ((elim q as (λ _. ℕ) [ inl less ↦ f k | inr most ↦ f (k + 1) ]) ≡ f k)) ⊎ ((i ≤ k) × ((elim q as (λ _. ℕ) [ inl less ↦ f k | inr most ↦ f (k + 1) ]) ≡ f (k + 1)))) [
   | inl less ↦ inl (less, refl)
   | inr most ↦ inr (most, refl)
 ]
@@ -54,19 +54,19 @@ few-places (y ∷ list) n f rises all = elim (find-place f y n) [
         | inr most ↦ let u = rises i j (omega (arith, most, ne)) lj in omega (arith, u, e, same)
       ] in
       let g_rises : (a b : ℕ) → a < b → b < n - 1 → g a < g b = λ a b less lb.
-          elim (left-out f i a) [
-            | inl (x, p) ↦ elim (left-out f i b) [
-              | inl (z, q) ↦ let u = rises a b less (omega (arith, lb)) in omega (arith, u, p, q)
-              | inr (z, q) ↦ let u = rises a (b + 1) (omega (arith, less)) (omega (arith, lb)) in omega (arith, u, p, q)
-            ]
-            | inr (x, p) ↦ elim (left-out f i b) [
-              | inl (z, q) ↦ absurd (omega (arith, less, x, z))
-              | inr (z, q) ↦ let u = rises (a + 1) (b + 1) (omega (arith, less)) (omega (arith, lb)) in omega (arith, u, p, q)
-            ]
-          ] in
+      elim (left-out f i a) [
+        | inl (x, p) ↦ elim (left-out f i b) [
+          | inl (z, q) ↦ let u = rises a b less (omega (arith, lb)) in omega (arith, u, p, q)
+          | inr (z, q) ↦ let u = rises a (b + 1) (omega (arith, less)) (omega (arith, lb)) in omega (arith, u, p, q)
+        ]
+        | inr (x, p) ↦ elim (left-out f i b) [
+          | inl (z, q) ↦ absurd (omega (arith, less, x, z))
+          | inr (z, q) ↦ let u = rises (a + 1) (b + 1) (omega (arith, less)) (omega (arith, lb)) in omega (arith, u, p, q)
+        ]
+      ] in
       let u = few-places list (n - 1) g g_rises (λ k lk.
-          let o = other k lk in
-          subst (Contains list) (sym o.3) (in-tail y list (f o.0) (apart o.0 o.1 o.2) (all o.0 o.1))) in
+      let o = other k lk in
+      subst (Contains list) (sym o.3) (in-tail y list (f o.0) (apart o.0 o.1 o.2) (all o.0 o.1))) in
       omega (arith, u, l)
 ]
 
@@ -98,7 +98,7 @@ pub few-codes : (pieces : List Piece) (rows codes : List ℕ) (count from to : �
     → to ≤ from + 2 * length rows
 few-codes pieces rows codes count from to rises within origin =
     let u = few-places (both-codes pieces rows) (to - from) (λ i. get_or codes (from + i) 0)
-        (λ i j less l. rises-less codes (from + i) (from + j) rises (omega (arith, less)) (omega (arith, l, within)))
-        (λ i l. let o = origin (from + i) (omega arith) (omega (arith, l)) in codes-contain pieces rows count o.0 (get_or codes (from + i) 0) o.1 o.2) in
+    (λ i j less l. rises-less codes (from + i) (from + j) rises (omega (arith, less)) (omega (arith, l, within)))
+    (λ i l. let o = origin (from + i) (omega arith) (omega (arith, l)) in codes-contain pieces rows count o.0 (get_or codes (from + i) 0) o.1 o.2) in
     let e = length-codes pieces rows in
     omega (arith, u, e)

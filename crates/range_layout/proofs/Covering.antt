@@ -66,11 +66,15 @@ module _ (points numbers : List ℕ) (ends : List Ends) (pieces : List Piece) (c
       let o = s.codes_are.origin (get_or codes i 0) (i, l, get_or_default codes i (get_or codes i 0) 0 l) in
       let p = piece-of o.0 o.1 in
       let w = p.low_within in
-      let same = p.same in
-      (o.0, o.1, elim o.2 [
-        | inl e ↦ (split-code (get_or codes i 0) (piece_at pieces o.0).number (piece_at pieces o.0).low (omega (arith, few, w)) e).0 ∙ same
-        | inr (inside, e) ↦ (split-code (get_or codes i 0) (piece_at pieces o.0).number (piece_at pieces o.0).high (omega (arith, few, inside)) e).0 ∙ same
-      ], o.2)
+      let same = p.same in (
+        o.0,
+        o.1,
+        elim o.2 [
+          | inl e ↦ (split-code (get_or codes i 0) (piece_at pieces o.0).number (piece_at pieces o.0).low (omega (arith, few, w)) e).0 ∙ same
+          | inr (inside, e) ↦ (split-code (get_or codes i 0) (piece_at pieces o.0).number (piece_at pieces o.0).high (omega (arith, few, inside)) e).0 ∙ same
+        ],
+        o.2,
+      )
 
   module _ (number from to : ℕ) (k : AreKeyCodes codes number from to) (row : ℕ) (l : row < length pieces) where
     abbrev piece : Piece

@@ -1,7 +1,9 @@
 -- Ends and points: a range holds a number where its point lies between those of its ends.
-use Rattle.std.proofs.Common.{◌≡◌, ℕ, ◌+◌, ◌-◌, ◌^◌, ◌<◌, ◌≤◌, ℤ, pos, negsuc, arith}
+use Rattle.std.proofs.Common.{◌≡◌, ℕ, ◌+◌, ◌-◌, ◌^◌, ◌<◌, ◌≤◌, ℤ, pos, negsuc, ap, ◌∙◌, arith}
 use Rattle.std.specs.Prelude.{◌+ℤ◌, ◌≤ℤ◌, ◌<ℤ◌, unsigned_abs}
-use Rattle.std.proofs.lemmas.Int.{ints}
+use Rattle.std.proofs.lemmas.Int.{ints, to_z-of_z}
+use mir.Syntax.{w128}
+use mir.Val.{SFits, of_z, to_z}
 use Rattle.range_layout.specs.FindByRange.{HoldsPoint, IsLowerEnd, IsLowerStart, IsOpenAt, IsStarted}
 use Rattle.range_layout.specs.Points.{FitsEnd, IsNumber, low_point, past_point, point_of}
 use Rattle.range_layout.specs.declared.ends.End.{End}
@@ -44,3 +46,10 @@ open-to (At a) z f h s = let u = point-no_less z a h f s in omega (arith, u)
 pub open-from : (end : End) (z : ℤ) → FitsEnd end → IsNumber z → point_of z < past_point end → IsOpenAt end z
 open-from Free z f h s = tt
 open-from (At a) z f h s = number-no_less z a h f (omega (arith, s))
+
+-- what is passed as a number of 128 bits is one
+pub number-passed : (z : ℤ) → SFits w128 z → IsNumber z
+number-passed z f = (omega (arith, ints, f), omega (arith, ints, f))
+
+pub point-passed : (z : ℤ) (point : ℕ) → SFits w128 z → point ≡ point_of (to_z w128 (of_z w128 z)) → point ≡ point_of z
+point-passed z point f e = e ∙ ap point_of (to_z-of_z w128 z f)

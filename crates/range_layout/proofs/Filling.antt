@@ -230,8 +230,8 @@ module _ (points codes taken : List ℕ) (from at : ℕ) (after : from ≤ at) (
     edges-added point winner new_edges new_winners same is point_is winner_is (inl (e, w, none, some)) =
         let len : length winners ≡ end = omega (arith, same, is) in
         let kept = edges-same
-            (λ q. sym winner_is ∙ none (omega (arith, q, len)))
-            (λ l. sym winner_is ∙ subst (λ k. winner ≡ get_or winners (k - 1) 0) len (some (omega (arith, l, len)))) in
+        (λ q. sym winner_is ∙ none (omega (arith, q, len)))
+        (λ l. sym winner_is ∙ subst (λ k. winner ≡ get_or winners (k - 1) 0) len (some (omega (arith, l, len)))) in
         let long : length new_edges ≡ end = ap length e ∙ sym is in
         subst (λ k. AreEdgesOf points codes taken from (at + 1) new_edges new_winners start k) (sym long)
         (subst (λ (z : List ℕ). AreEdgesOf points codes taken from (at + 1) new_edges z start end) (sym w)
@@ -274,15 +274,14 @@ pub key-codes : (codes : List ℕ) (number from at : ℕ) → IsStrictlyIncreasi
     → ((i : ℕ) → from ≤ i → i < at → number_at codes i ≡ number) → (at < length codes → number_at codes at ≢ number) → AreKeyCodes codes number from at × ((i : ℕ) → at ≤ i → i < length codes → number + 1 ≤ number_at codes i)
 key-codes codes number from at r before behind order within own stop =
     let past : (i : ℕ) → at ≤ i → i < length codes → number + 1 ≤ number_at codes i = λ i h l.
-        let b = behind at order (omega (arith, h, l)) in
-        let s = stop (omega (arith, h, l)) in
-        let u = numbers-no_less codes r at i h l in
-        let more : number < number_at codes at = elim (cases_eq (number_at codes at) number) [
-          | inl e ↦ absurd (s e)
-          | inr ne ↦ omega (arith, b, ne)
-        ] in
-        omega (arith, more, u) in
-    (
+    let b = behind at order (omega (arith, h, l)) in
+    let s = stop (omega (arith, h, l)) in
+    let u = numbers-no_less codes r at i h l in
+    let more : number < number_at codes at = elim (cases_eq (number_at codes at) number) [
+      | inl e ↦ absurd (s e)
+      | inr ne ↦ omega (arith, b, ne)
+    ] in
+    omega (arith, more, u) in (
       record {
         order = order;
         within = within;

@@ -1,11 +1,12 @@
 -- A step of a search by halves.
 use Rattle.std.specs.List.{slice_get}
-use Rattle.std.proofs.Common.{◌≡◌, ℕ, ◌+◌, ◌*◌, ◌^◌, ◌<◌, ◌≤◌, inl, inr, refl, arith, sym, subst, List, length, get_or, Some}
+use Rattle.std.proofs.Common.{◌≡◌, ℕ, ◌+◌, ◌*◌, ◌^◌, ◌<◌, ◌≤◌, inl, inr, refl, arith, ap, sym, subst, List, length, get_or, Some}
 use Rattle.std.proofs.lemmas.Bool.{cases_lt}
 use Rattle.std.proofs.lemmas.Option.{get_or_from_slice_get}
 use Rattle.std.proofs.Math.Nat.{mul-le-mul_left}
 use Rattle.std.proofs.lemmas.Nat.{pow-add}
-use Rattle.range_layout.specs.Halves.{IsHalved, Rises}
+use Rattle.range_layout.specs.Halves.{AreHalves, IsHalved, Rises}
+use Rattle.range_layout.specs.Kept.{AreFew}
 
 pub halved-none : (size amount : ℕ) → IsHalved size size amount amount
 halved-none size amount = record { steps = 0; halves = inl refl; left = omega arith; spent = omega arith }
@@ -48,3 +49,15 @@ module _ (edges : List ℕ) (start end point middle x : ℕ) (r : Rises edges st
         let e = here in
         subst (λ k. point < get_or edges k 0) q (omega (arith, e, h))
   ]
+
+-- the steps of a search by halves and two more are few for the rows with a key
+pub few-steps : (size rows steps old mid new : ℕ) → size ≤ 2 * rows → 0 < rows → AreHalves size steps → mid ≤ old + 1 → new ≤ mid + (steps + 1) → (s : ℕ) × AreFew rows s × (new ≤ old + s)
+few-steps size rows steps old mid new most some halves one more =
+    let p : 2 ^ (steps + 2) ≡ 2 ^ steps * 4 = pow-add 2 steps 2 in
+    let few : 2 ^ (steps + 2) ≤ 16 * rows = elim halves [
+      | inl none ↦
+          let e : 2 ^ steps ≡ 1 = ap (λ n. 2 ^ n) none in
+          omega (arith, p, e, some)
+      | inr less ↦ omega (arith, p, less, most)
+    ] in
+    (steps + 2, inr few, omega (arith, one, more))

@@ -1,11 +1,13 @@
 -- Lemmas of this crate.
 pub mod Both
+pub mod Built
 pub mod Counting
 pub mod Covering
 pub mod EndPoints
 pub mod Filling
 pub mod Halving
 pub mod Nths
+pub mod Numbering
 pub mod Painting
 pub mod Ranks
 pub mod Rising

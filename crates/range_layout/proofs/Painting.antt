@@ -55,7 +55,7 @@ module _ (codes : List ℕ) (piece : Piece) (row start : ℕ) (rises : IsStrictl
               | inl before ↦ omega (arith, before, a)
               | inr behind ↦ omega (arith, behind, l)
             ] in
-            one.others i ne ∙ p.others i (elim outer [ | inl before ↦ inl before | inr behind ↦ inr (omega (arith, behind, l)) ]);
+            one.others i ne ∙ p.others i (elim outer [ inl before ↦ inl before | inr behind ↦ inr (omega (arith, behind, l)) ]);
       }
 
   pub painted-all : (at : ℕ) (new : List ℕ) → start < length codes → get_or codes start 0 ≡ start_of piece → (at < length codes → end_of piece ≤ get_or codes at 0) → IsPaintedTo codes piece row start at old new
@@ -97,12 +97,12 @@ tells-more pieces ranks count code old new within (inr (i, less, is, here, first
 tells-more pieces ranks count code old new within (inl (zero, none)) kept painted other =
     let piece = piece_at pieces (row_at ranks count) in
     let more : ¬ (Covers pieces (row_at ranks count) code) → (i : ℕ) → i < count + 1 → ¬ (Covers pieces (row_at ranks i) code) = λ last i l covers.
-        elim (cases_lt i count) [
-          | inl less ↦ none i less covers
-          | inr most ↦
-              let e : i ≡ count = omega (arith, most, l) in
-              last (subst (λ k. Covers pieces (row_at ranks k) code) e covers)
-        ] in
+    elim (cases_lt i count) [
+      | inl less ↦ none i less covers
+      | inr most ↦
+          let e : i ≡ count = omega (arith, most, l) in
+          last (subst (λ k. Covers pieces (row_at ranks k) code) e covers)
+    ] in
     elim (cases_lt code (start_of piece)) [
       | inl before ↦ inl (other zero (inl before), more (λ covers. let u = covers.1 in omega (arith, u, before)))
       | inr from ↦ elim (cases_lt code (end_of piece)) [

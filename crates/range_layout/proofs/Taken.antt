@@ -1,7 +1,7 @@
 -- The first rank whose piece has a code is that of the row that is taken.
 use Rattle.std.specs.List.{slice_get}
 use Rattle.std.specs.Prelude.{Contains}
-use Rattle.std.proofs.Common.{◌≡◌, ◌⊎◌, ℕ, zero, suc, ℤ, ◌+◌, ◌-◌, ◌*◌, ◌/◌, ◌%◌, ◌^◌, ◌<◌, ◌≤◌, List, Option, Some, None, length, get_or, inl, inr, refl, sym, ◌∙◌, ap, subst, arith}
+use Rattle.std.proofs.Common.{◌≡◌, ◌≢◌, ◌⊎◌, ℕ, zero, suc, ℤ, ◌+◌, ◌-◌, ◌*◌, ◌/◌, ◌%◌, ◌^◌, ◌<◌, ◌≤◌, List, Option, Some, None, length, get_or, inl, inr, refl, sym, ◌∙◌, ap, subst, arith}
 use Rattle.std.proofs.lemmas.Bool.{cases_lt}
 use Rattle.std.proofs.lemmas.List.{get_or_default}
 use Rattle.std.proofs.lemmas.Option.{get_or_from_slice_get, slice_get-get_or, slice_get_within}
@@ -10,7 +10,7 @@ use Rattle.dict_schema.specs.declared.definition.Strategy.TheVariants.{Min, Max}
 use Rattle.dict_value.specs.FindByKey.{HasKeyAt}
 use Rattle.dict_value.specs.declared.value.Value.{Value}
 use Rattle.range_layout.specs.FindByRange.{AreRowsWith, FindsByRange, HasRangeAt, HoldsPoint, Precedes}
-use Rattle.range_layout.specs.Kept.{IsSpanOf, row_told}
+use Rattle.range_layout.specs.Kept.{IsSpanOf, TellsIn, row_told}
 use Rattle.range_layout.specs.Pieces.{AreRanksOf, Covers, piece_at, rank_of}
 use Rattle.range_layout.specs.Points.{IsNumber, point_of, range_at}
 use Rattle.range_layout.specs.declared.ends.End.TheVariants.{Free}
@@ -87,9 +87,9 @@ module _ (keys : List (List Value)) (points numbers : List ℕ) (ends : List End
       pub finds-first : (winner : ℕ) → TellsFirst pieces ranks (length ranks) (get_or codes i 0) winner → FindsByRange keys ends strategy key point (row_told winner)
       finds-first winner (inl (zero_winner, none)) =
           subst (λ w. FindsByRange keys ends strategy key point (row_told w)) (sym zero_winner) (λ place range has holds.
-            let c = covered place range has holds in
-            let p = rank-place place (row-of place has.0) in
-            none p.0 p.1 (subst (λ q. Covers pieces q (get_or codes i 0)) (sym p.3) c))
+          let c = covered place range has holds in
+          let p = rank-place place (row-of place has.0) in
+          none p.0 p.1 (subst (λ q. Covers pieces q (get_or codes i 0)) (sym p.3) c))
       finds-first winner (inr (at, less, is, covers, first)) =
           let row = row_at ranks at in
           let w = covers.0 in
@@ -110,8 +110,8 @@ module _ (keys : List (List Value)) (points numbers : List ℕ) (ends : List End
                 let other_range = range-here other before other_has.1 in
                 let wo = row-of other other_has.0 in
                 let lower = rank-less points s.points_are.rises s.points_are.small strategy (range_at ends other) (range_at ends row) (get_or numbers other 0) (get_or numbers row 0) (piece_at pieces other) (piece_at pieces row)
-                    other row s.few (omega (arith, wo, len, rows_few)) (omega (arith, w, len, rows_few)) (s.pieces_are.each other (omega (arith, wo, len))) (s.pieces_are.each row (omega (arith, w, len)))
-                    (subst (λ (q : Ends). Precedes strategy q other (range_at ends row) row) (sym other_range) precedes) in
+                other row s.few (omega (arith, wo, len, rows_few)) (omega (arith, w, len, rows_few)) (s.pieces_are.each other (omega (arith, wo, len))) (s.pieces_are.each row (omega (arith, w, len)))
+                (subst (λ (q : Ends). Precedes strategy q other (range_at ends row) row) (sym other_range) precedes) in
                 elim (cases_lt p.0 at) [
                   | inl earlier ↦ first p.0 earlier (subst (λ q. Covers pieces q (get_or codes i 0)) (sym p.3) c)
                   | inr most ↦
@@ -129,18 +129,18 @@ module _ (keys : List (List Value)) (points numbers : List ℕ) (ends : List End
       let len = s.pieces_are.len in
       let within = k.within in
       let told : (point : ℤ) (i : ℕ) → IsNumber point → IsLastCode points codes is.from is.to (point_of point) i → FindsByRange keys ends strategy key point (row_told (get_or taken i 0)) = λ point i z last.
-          let before = last.before in
-          finds-first key number n is.from is.to k point z i last (get_or taken i 0) (t i (omega (arith, before, within))) in
+      let before = last.before in
+      finds-first key number n is.from is.to k point z i last (get_or taken i 0) (t i (omega (arith, before, within))) in
       record {
         order = e.order;
         within = is.within;
         few = λ rows are.
             let few = e.few in
             let u = few-codes pieces rows codes (length points) is.from is.to s.codes_are.rises within (λ i a b.
-              let o = code-origin points numbers ends pieces codes s i (omega (arith, b, within)) in
-              let w = o.1 in
-              let has = n.own o.0 (omega (arith, w, len, same)) (sym o.2 ∙ k.same i a b) in
-              (o.0, (are.each o.0).1 has, o.3)) in
+            let o = code-origin points numbers ends pieces codes s i (omega (arith, b, within)) in
+            let w = o.1 in
+            let has = n.own o.0 (omega (arith, w, len, same)) (sym o.2 ∙ k.same i a b) in
+            (o.0, (are.each o.0).1 has, o.3)) in
             omega (arith, few, u);
         rises = e.rises;
         first = e.first;
@@ -153,3 +153,14 @@ module _ (keys : List (List Value)) (points numbers : List ℕ) (ends : List End
             let o = e.on (point_of point) i a b reached next in
             subst (λ w. FindsByRange keys ends strategy key point (row_told w)) (sym o.2) (told point o.0 z o.1);
       }
+
+-- what is told in a key's span is what is found
+pub finds-told : (keys : List (List Value)) (ends : List Ends) (strategy : Strategy) (edges winners : List ℕ) (key : List Value) (span : Span) (point : ℤ) (winner : ℕ) → IsSpanOf keys ends strategy edges winners key span → IsNumber point
+    → TellsIn edges winners span (point_of point) winner → FindsByRange keys ends strategy key point (row_told winner)
+finds-told keys ends strategy edges winners key span point winner s z (inl (none, before)) = subst (λ w. FindsByRange keys ends strategy key point (row_told w)) (sym none) (s.before point z before)
+finds-told keys ends strategy edges winners key span point winner s z (inr (i, after, within, reached, next, is)) =
+    subst (λ w. FindsByRange keys ends strategy key point (row_told w)) (sym is) (s.on point i z after within reached next)
+
+pub told-some : (winner : ℕ) → winner ≢ 0 → row_told winner ≡ Some (winner - 1)
+told-some zero some = absurd (some refl)
+told-some (suc row) some = let e : row ≡ suc row - 1 = omega arith in ap Some e

@@ -32,7 +32,6 @@ past_point (At z) = point_of z + 1
 abbrev pub nth_point : List ℕ → ℕ → ℕ
 nth_point points place = slice_index_or points place (2 ^ 128)
 
-
 -- the range of a row
 abbrev pub range_at : List Ends → ℕ → Ends
 range_at ends row = slice_index_or ends row (record { low = Free; high = Free })

@@ -104,11 +104,7 @@ fn all_codes(alloc: Global, pieces: &[Piece], count: usize) -> Result<Vec<u128>,
 }
 
 /// Where pieces begin and end, rising.
-pub(crate) fn codes_of(
-    alloc: Global,
-    pieces: &[Piece],
-    count: usize,
-) -> Result<Vec<u128>, NoMemory>
+pub(crate) fn codes_of(alloc: Global, pieces: &[Piece], count: usize) -> Result<Vec<u128>, NoMemory>
     requires { length pieces.now ≤ MOST_ROWS }
     ensures { IfOk result (λ codes. AreCodesOf pieces.now count codes.items) }
 {

@@ -68,25 +68,18 @@ impl<S: Counter> Ranged<S> {
             ranged.keys ranged.spans ranged.edges ranged.winners) }
     {
         let table = Complex::build(alloc, keys)?;
-        let numbers = numbers_of(alloc, &table, keys)?;
-        let points = points_of(alloc, ends)?;
-        let pieces = pieces_of(alloc, points.as_slice(), numbers.as_slice(), ends)?;
-        let codes = codes_of(alloc, pieces.as_slice(), points.len())?;
-        let ranks = ranks_of(alloc, strategy, ends, pieces.as_slice())?;
-        let taken = winners_of(
-            alloc,
-            codes.as_slice(),
-            pieces.as_slice(),
-            points.len(),
-            ranks.as_slice(),
-        )?;
-        let index = index_of(
-            alloc,
-            points.as_slice(),
-            codes.as_slice(),
-            taken.as_slice(),
-            keys.len(),
-        )?;
+        let number_list = numbers_of(alloc, &table, keys)?;
+        let numbers = number_list.as_slice();
+        let point_list = points_of(alloc, ends)?;
+        let points = point_list.as_slice();
+        let piece_list = pieces_of(alloc, points, numbers, ends)?;
+        let pieces = piece_list.as_slice();
+        let code_list = codes_of(alloc, pieces, points.len())?;
+        let codes = code_list.as_slice();
+        let rank_list = ranks_of(alloc, strategy, ends, pieces)?;
+        let ranks = rank_list.as_slice();
+        let taken = winners_of(alloc, codes, pieces, points.len(), ranks)?;
+        let index = index_of(alloc, points, codes, taken.as_slice(), keys.len())?;
         Ok(Ranged {
             keys: table,
             spans: Counted::from_list(index.spans),
@@ -106,7 +99,9 @@ impl<S: Counter> Ranged<S> {
             → (rows : List ℕ) → AreRowsWith keys key.now rows
             → (s : ℕ) × AreFew (length rows) s × (S.amount steps.new ≤ S.amount steps.old + s) }
     {
-        let span = self.span_of(key, steps)?;
+        let Some(span) = self.span_of(key, steps) else {
+            return None;
+        };
         let winner = self.winner_in(span, point_of(point), steps);
         if winner == 0 { None } else { Some(winner - 1) }
     }
