@@ -1,7 +1,7 @@
 -- A number, and another where there is one.
 use Rattle.std.specs.Option.{option_to_list}
-use Rattle.std.specs.Prelude.{Contains, MatchOption}
-use Rattle.std.proofs.Common.{◌≡◌, ◌<◌, ◌≤◌, ◌^◌, ◌∷◌, ◌⊎◌, ℕ, zero, suc, List, Option, Some, None, length, inl, inr, refl, sym, ap, arith}
+use Rattle.std.specs.Prelude.{Contains}
+use Rattle.std.proofs.Common.{◌≡◌, ◌≤◌, ◌∷◌, ◌⊎◌, ℕ, zero, suc, Option, Some, None, length, inl, inr, sym, ap, arith}
 
 pub length-both : (x : ℕ) (o : Option ℕ) → length (x ∷ option_to_list o) ≤ 2
 length-both x None = omega arith

@@ -1,5 +1,4 @@
 -- What is built stands for the rows.
-use Rattle.std.specs.List.{slice_get}
 use Rattle.std.proofs.Common.{◌≡◌, ℕ, ◌^◌, ◌<◌, ◌≤◌, List, length, get_or, sym, subst, ap, arith}
 use Rattle.std.proofs.lemmas.Option.{slice_get_within}
 use Rattle.dict_schema.specs.declared.definition.Strategy.{Strategy}

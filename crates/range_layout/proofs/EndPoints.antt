@@ -1,10 +1,10 @@
 -- Ends and points: a range holds a number where its point lies between those of its ends.
-use Rattle.std.proofs.Common.{◌≡◌, ℕ, ◌+◌, ◌-◌, ◌^◌, ◌<◌, ◌≤◌, ℤ, pos, negsuc, ap, ◌∙◌, arith}
-use Rattle.std.specs.Prelude.{◌+ℤ◌, ◌≤ℤ◌, ◌<ℤ◌, unsigned_abs}
+use Rattle.std.proofs.Common.{◌≡◌, ℕ, ◌^◌, ◌<◌, ◌≤◌, ℤ, pos, negsuc, ap, ◌∙◌, arith}
+use Rattle.std.specs.Prelude.{◌+ℤ◌, ◌≤ℤ◌, ◌<ℤ◌}
 use Rattle.std.proofs.lemmas.Int.{ints, to_z-of_z}
 use mir.Syntax.{w128}
 use mir.Val.{SFits, of_z, to_z}
-use Rattle.range_layout.specs.FindByRange.{HoldsPoint, IsLowerEnd, IsLowerStart, IsOpenAt, IsStarted}
+use Rattle.range_layout.specs.FindByRange.{IsOpenAt, IsStarted}
 use Rattle.range_layout.specs.Points.{FitsEnd, IsNumber, low_point, past_point, point_of}
 use Rattle.range_layout.specs.declared.ends.End.{End}
 use Rattle.range_layout.specs.declared.ends.End.TheVariants.{Free, At}

@@ -1,7 +1,6 @@
 -- The first rank whose piece has a code is that of the row that is taken.
 use Rattle.std.specs.List.{slice_get}
-use Rattle.std.specs.Prelude.{Contains}
-use Rattle.std.proofs.Common.{◌≡◌, ◌≢◌, ◌⊎◌, ℕ, zero, suc, ℤ, ◌+◌, ◌-◌, ◌*◌, ◌/◌, ◌%◌, ◌^◌, ◌<◌, ◌≤◌, List, Option, Some, None, length, get_or, inl, inr, refl, sym, ◌∙◌, ap, subst, arith}
+use Rattle.std.proofs.Common.{◌≡◌, ◌≢◌, ℕ, zero, suc, ℤ, ◌-◌, ◌%◌, ◌^◌, ◌<◌, ◌≤◌, List, Some, None, length, get_or, inl, inr, refl, sym, ◌∙◌, ap, subst, arith}
 use Rattle.std.proofs.lemmas.Bool.{cases_lt}
 use Rattle.std.proofs.lemmas.List.{get_or_default}
 use Rattle.std.proofs.lemmas.Option.{get_or_from_slice_get, slice_get-get_or, slice_get_within}
@@ -9,14 +8,13 @@ use Rattle.dict_schema.specs.declared.definition.Strategy.{Strategy}
 use Rattle.dict_schema.specs.declared.definition.Strategy.TheVariants.{Min, Max}
 use Rattle.dict_value.specs.FindByKey.{HasKeyAt}
 use Rattle.dict_value.specs.declared.value.Value.{Value}
-use Rattle.range_layout.specs.FindByRange.{AreRowsWith, FindsByRange, HasRangeAt, HoldsPoint, Precedes}
+use Rattle.range_layout.specs.FindByRange.{FindsByRange, HasRangeAt, HoldsPoint, Precedes}
 use Rattle.range_layout.specs.Kept.{IsSpanOf, TellsIn, row_told}
 use Rattle.range_layout.specs.Pieces.{AreRanksOf, Covers, piece_at, rank_of}
 use Rattle.range_layout.specs.Points.{IsNumber, point_of, range_at}
 use Rattle.range_layout.specs.declared.ends.End.TheVariants.{Free}
 use Rattle.range_layout.specs.declared.ends.Ends.{Ends}
 use Rattle.range_layout.specs.declared.index.Span.{Span}
-use Rattle.range_layout.specs.declared.order.TheConstants.{ABOVE}
 use Rattle.range_layout.specs.declared.pieces.Piece.{Piece}
 use Rattle.range_layout.specs.steps.Filling.{AreKeyCodes, IsLastCode, IsSpanIn}
 use Rattle.range_layout.specs.steps.Painting.{TellsFirst, row_at}

@@ -1,5 +1,5 @@
 -- A search by halves among rising edges.
-use Rattle.std.specs.Prelude.{◌≡◌, ◌+◌, ◌-◌, ◌*◌, ◌^◌, ◌<◌, ◌≤◌, ◌⊎◌, ℕ, List, slice_index}
+use Rattle.std.specs.Prelude.{◌≡◌, ◌+◌, ◌*◌, ◌^◌, ◌<◌, ◌≤◌, ◌⊎◌, ℕ, List, slice_index}
 
 -- the edges from one place to another rise
 abbrev pub Rises : List ℕ → ℕ → ℕ → Type 0

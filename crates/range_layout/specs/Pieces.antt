@@ -1,6 +1,7 @@
 -- The ranges of rows as pieces of one line. Its codes are places of points, those of each key behind those of the one
 -- before.
-use Rattle.std.specs.Prelude.{◌≡◌, ◌+◌, ◌-◌, ◌*◌, ◌^◌, ◌<◌, ◌≤◌, ◌⊎◌, ℕ, List, Contains, length, slice_index, slice_index_or}
+use Rattle.std.specs.Prelude.{◌≡◌, ◌+◌, ◌-◌, ◌*◌, ◌^◌, ◌<◌, ◌≤◌}
+use Rattle.std.specs.Prelude.{◌⊎◌, ℕ, List, Contains, length, slice_index, slice_index_or}
 use Rattle.std.specs.List.Sorted.{IsStrictlyIncreasing}
 use Rattle.dict_schema.specs.declared.definition.Strategy.{Strategy}
 use Rattle.dict_schema.specs.declared.definition.Strategy.TheVariants.{Min, Max}

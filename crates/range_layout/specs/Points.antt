@@ -1,5 +1,6 @@
 -- Points: numbers counted from the least one on, so that they are natural ones.
-use Rattle.std.specs.Prelude.{◌≡◌, ◌+◌, ◌-◌, ◌^◌, ◌<◌, ◌≤◌, ◌+ℤ◌, ◌≤ℤ◌, ◌<ℤ◌, ℕ, ℤ, pos, negsuc, List, Contains, Some, length, slice_get, slice_index, slice_index_or}
+use Rattle.std.specs.Prelude.{◌+◌, ◌-◌, ◌^◌, ◌<◌, ◌≤◌, ◌+ℤ◌, ◌≤ℤ◌, ◌<ℤ◌, ℕ}
+use Rattle.std.specs.Prelude.{ℤ, pos, negsuc, List, Contains, length, slice_index, slice_index_or}
 use Rattle.std.specs.Prelude.{◌*◌, unsigned_abs}
 use Rattle.std.specs.List.Sorted.{IsStrictlyIncreasing}
 use Rattle.range_layout.specs.declared.ends.End.{End}

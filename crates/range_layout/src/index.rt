@@ -1,7 +1,8 @@
 // The points at which the taken row of a key changes.
 ghost use Rattle.std.specs.Prelude.{◌≡◌, ◌≢◌, ◌+◌, ◌-◌, ◌*◌, ◌^◌, ◌<◌, ◌≤◌, ℕ, IfOk, OnOk, length, slice_index};
 ghost use Rattle.dict_value.specs.declared.value.TheConstants.{MOST_ROWS};
-ghost use Rattle.range_layout.specs.steps.Filling.{AddsEdge, AreCodes, AreEdgesOf, AreKeyCodes, AreSpansIn, Keeps, number_at};
+ghost use Rattle.range_layout.specs.steps.Filling.{AddsEdge, AreCodes, AreEdgesOf};
+ghost use Rattle.range_layout.specs.steps.Filling.{AreKeyCodes, AreSpansIn, Keeps, number_at};
 
 use dict_value::{ListOf, NoMemory};
 use std::alloc::Global;

@@ -4,7 +4,8 @@ ghost use Rattle.std.specs.Prelude.{◌≡◌, ◌≢◌, ◌+◌, ◌-◌, ◌<
 ghost use Rattle.std.specs.List.Sorted.{IsStrictlyIncreasing};
 ghost use Rattle.dict_value.specs.declared.value.TheConstants.{MOST_ROWS};
 ghost use Rattle.range_layout.specs.Pieces.{AreCodesOf, start_of};
-ghost use Rattle.range_layout.specs.steps.Painting.{ArePainted, IsOnePainted, IsPainted, Leads, Skips, TellsFirst, row_at};
+ghost use Rattle.range_layout.specs.steps.Painting.{ArePainted, IsOnePainted, IsPainted};
+ghost use Rattle.range_layout.specs.steps.Painting.{Leads, Skips, TellsFirst, row_at};
 
 use crate::order::row_of;
 use crate::pieces::{Piece, end_of, start_of};

@@ -1,5 +1,6 @@
 // Rows by a key and a point.
-ghost use Rattle.std.specs.Prelude.{◌≡◌, ◌+◌, ◌-◌, ◌<◌, ◌≤◌, ℕ, None, List, IfOk, IfSome, MatchOption, length, slice_index};
+ghost use Rattle.std.specs.Prelude.{◌≡◌, ◌+◌, ◌-◌, ◌<◌, ◌≤◌, ℕ};
+ghost use Rattle.std.specs.Prelude.{None, List, IfOk, IfSome, MatchOption, length, slice_index};
 ghost use Rattle.dict_schema.specs.declared.definition.Strategy.{Strategy as StrategyOf};
 ghost use Rattle.dict_value.specs.FindByKey.{HasKeyAt, IsLeastPlace};
 ghost use Rattle.dict_value.specs.declared.value.TheConstants.{MOST_ROWS};

@@ -1,5 +1,6 @@
 -- How the edges of a key are found among its codes.
-use Rattle.std.specs.Prelude.{◌≡◌, ◌≢◌, ◌+◌, ◌-◌, ◌*◌, ◌/◌, ◌%◌, ◌^◌, ◌<◌, ◌≤◌, ◌⊎◌, ◌++◌, ◌∷◌, ℕ, List, [], length, slice_index, slice_index_or}
+use Rattle.std.specs.Prelude.{◌≡◌, ◌≢◌, ◌+◌, ◌-◌, ◌/◌, ◌%◌, ◌^◌, ◌<◌}
+use Rattle.std.specs.Prelude.{◌≤◌, ◌⊎◌, ◌++◌, ◌∷◌, ℕ, List, [], length, slice_index, slice_index_or}
 use Rattle.std.specs.List.Sorted.{IsStrictlyIncreasing}
 use Rattle.range_layout.specs.Points.{nth_point}
 use Rattle.range_layout.specs.declared.index.Span.{Span}
@@ -26,7 +27,8 @@ pub record IsLastCode (points codes : List ℕ) (from to x i : ℕ) : Type 0 whe
 
 -- The edges from `start` to `end` are the points, among those of the codes from one place to another, at which the
 -- taken row changes; and the winners are the rows that are taken from them on.
-pub record AreEdgesOf (points codes taken : List ℕ) (from to : ℕ) (edges winners : List ℕ) (start end : ℕ) : Type 0 where
+pub record AreEdgesOf (points codes taken : List ℕ) (from to : ℕ) (edges winners : List ℕ)
+    (start end : ℕ) : Type 0 where
   pub order : start ≤ end
   pub few : end + from ≤ start + to
   pub rises : (i j : ℕ) → start ≤ i → i < j → j < end → slice_index edges i < slice_index edges j

@@ -1,5 +1,5 @@
 -- How codes are painted with rows.
-use Rattle.std.specs.Prelude.{◌≡◌, ◌≢◌, ◌+◌, ◌*◌, ◌%◌, ◌^◌, ◌<◌, ◌≤◌, ◌⊎◌, ℕ, List, length, slice_index}
+use Rattle.std.specs.Prelude.{◌≡◌, ◌≢◌, ◌+◌, ◌%◌, ◌^◌, ◌<◌, ◌≤◌, ◌⊎◌, ℕ, List, length, slice_index}
 use Rattle.range_layout.specs.Pieces.{Covers, end_of, start_of}
 use Rattle.range_layout.specs.declared.pieces.Piece.{Piece}
 

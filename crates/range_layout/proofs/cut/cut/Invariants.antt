@@ -1,5 +1,5 @@
 -- The edges before the gap are at most the point, and those behind it above.
-use Rattle.std.proofs.Common.{ℕ, ◌-◌, ◌<◌, ◌≤◌, length, get_or}
+use Rattle.std.proofs.Common.{ℕ, ◌-◌, ◌<◌, ◌≤◌, get_or}
 use Rattle.range_layout.specs.Halves.{IsHalved, Rises}
 use Rattle.range_layout.proofs.cut.cut.Given as goal
 

@@ -1,7 +1,7 @@
 -- One code more, and the end of a key's codes.
-use Rattle.std.proofs.Common.{◌≡◌, ℕ, ◌+◌, ◌%◌, ◌/◌, ◌^◌, ◌<◌, ◌≤◌, inl, inr, refl, sym, ◌∙◌, subst, arith, get_or, length, below_more}
+use Rattle.std.proofs.Common.{◌≡◌, ℕ, ◌%◌, ◌^◌, inl, inr, refl, sym, ◌∙◌, subst, arith, get_or, length}
 use Rattle.std.proofs.lemmas.Bool.{cases_lt}
-use Rattle.range_layout.specs.steps.Filling.{AddsEdge, Keeps, number_at, point_at}
+use Rattle.range_layout.specs.steps.Filling.{AddsEdge, number_at}
 use Rattle.range_layout.proofs.Filling.{added-keeps, edges-added, key-codes, points-less}
 use Rattle.range_layout.proofs.Nths.{nth-is}
 use Rattle.range_layout.proofs.index.fill_span.Goals as goal

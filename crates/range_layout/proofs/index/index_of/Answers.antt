@@ -1,5 +1,5 @@
 -- One key more.
-use Rattle.std.proofs.Common.{◌≡◌, ℕ, ◌+◌, ◌<◌, ◌≤◌, inl, inr, refl, sym, ◌∙◌, subst, arith, length}
+use Rattle.std.proofs.Common.{inl, inr, arith}
 use Rattle.std.proofs.lemmas.Bool.{cases_lt}
 use Rattle.range_layout.proofs.Filling.{spans-more}
 use Rattle.range_layout.proofs.index.index_of.Goals as goal

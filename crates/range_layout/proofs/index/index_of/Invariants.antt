@@ -1,5 +1,5 @@
 -- The spans so far.
-use Rattle.std.proofs.Common.{◌≡◌, ◌<◌, ◌≤◌, ℕ, length}
+use Rattle.std.proofs.Common.{◌<◌, ◌≤◌, ℕ, length}
 use Rattle.range_layout.specs.steps.Filling.{AreSpansIn, number_at}
 use Rattle.range_layout.proofs.index.index_of.Given as goal
 

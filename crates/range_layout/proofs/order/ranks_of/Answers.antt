@@ -1,6 +1,6 @@
 -- One rank more.
 use Rattle.std.specs.Prelude.{Contains}
-use Rattle.std.proofs.Common.{◌≡◌, ◌<◌, ◌++◌, ◌∷◌, ℕ, zero, suc, List, [], length, inl, inr, sym, subst, ◌∙◌, arith, rules, below_more}
+use Rattle.std.proofs.Common.{◌≡◌, ◌++◌, ◌∷◌, ℕ, zero, suc, [], inl, inr, sym, ◌∙◌, arith, rules, below_more}
 use Rattle.range_layout.specs.Pieces.{piece_at, rank_of}
 use Rattle.range_layout.specs.Points.{range_at}
 use Rattle.range_layout.proofs.Rising.{grown-cases, grown-left, grown-right}

@@ -1,6 +1,6 @@
 -- Where the loop ends, the piece is painted.
-use Rattle.std.proofs.Common.{◌<◌, ◌≤◌, arith}
-use Rattle.range_layout.proofs.Painting.{painted-all, painted-more, painted-start}
+use Rattle.std.proofs.Common.{arith}
+use Rattle.range_layout.proofs.Painting.{painted-all, painted-more}
 use Rattle.range_layout.proofs.paint.paint.Goals as goal
 
 pub returns-else-codes-at-clause-painted : goal.returns-else-codes-at-clause-painted

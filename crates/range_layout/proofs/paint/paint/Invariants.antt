@@ -1,5 +1,5 @@
 -- What has been gone over.
-use Rattle.std.proofs.Common.{◌≡◌, ◌+◌, ◌-◌, ◌≤◌, length}
+use Rattle.std.proofs.Common.{◌≡◌, ◌-◌, ◌≤◌, length}
 use Rattle.range_layout.specs.steps.Painting.{IsPaintedTo, Leads, Skips}
 use Rattle.range_layout.proofs.paint.paint.Given as goal
 

@@ -1,5 +1,5 @@
 -- One rank more.
-use Rattle.std.proofs.Common.{◌≡◌, ◌%◌, ◌^◌, ◌<◌, ℕ, inl, refl, sym, ◌∙◌, ap, subst, arith, get_or, length}
+use Rattle.std.proofs.Common.{◌≡◌, inl, refl, ◌∙◌, subst, arith, get_or, length}
 use Rattle.range_layout.specs.Pieces.{piece_at}
 use Rattle.range_layout.specs.steps.Painting.{IsPainted, TellsFirst, row_at}
 use Rattle.range_layout.proofs.Painting.{tells-more}

@@ -1,7 +1,7 @@
 -- One range more.
 use Rattle.std.specs.Option.{option_to_list}
 use Rattle.std.specs.Prelude.{Contains, MatchOption}
-use Rattle.std.proofs.Common.{◌≡◌, ◌<◌, ◌≤◌, ◌+◌, ◌^◌, ◌++◌, ◌∷◌, ℕ, List, Option, Some, None, length, inl, inr, refl, sym, subst, ap, arith, length-append, below_more}
+use Rattle.std.proofs.Common.{◌≡◌, ◌<◌, ◌^◌, ◌++◌, ◌∷◌, ℕ, Option, Some, None, length, ap, arith, length-append, below_more}
 use Rattle.range_layout.specs.Points.{low_point, past_point, range_at}
 use Rattle.range_layout.proofs.Both.{both-second, length-both}
 use Rattle.range_layout.proofs.Rising.{grown-left, grown-right}

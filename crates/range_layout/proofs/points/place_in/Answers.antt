@@ -1,5 +1,5 @@
 -- A search by halves finds what is there.
-use Rattle.std.proofs.Common.{Err, Ok, inl, inr, arith}
+use Rattle.std.proofs.Common.{Err, inl, inr, arith}
 use Rattle.std.proofs.lemmas.Bool.{cases_lt}
 use Rattle.std.proofs.lemmas.List.Sorted.{searched}
 use Rattle.range_layout.proofs.Rising.{place-of, rises-no_less}

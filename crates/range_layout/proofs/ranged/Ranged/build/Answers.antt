@@ -1,5 +1,5 @@
 -- What is built stands for the rows.
-use Rattle.std.proofs.Common.{◌≡◌, ◌<◌, ◌≤◌, ℕ, List, length, get_or, arith, sym, subst}
+use Rattle.std.proofs.Common.{◌≤◌, ℕ, List, length, get_or, arith, sym, subst}
 use Rattle.dict_value.specs.FindByKey.{HasKeyAt, IsLeastPlace}
 use Rattle.dict_value.specs.declared.value.TheConstants.{MOST_ROWS}
 use Rattle.dict_value.specs.declared.value.Value.{Value}

@@ -1,16 +1,10 @@
 -- What is told in the key's span is what is found.
-use Rattle.std.proofs.Common.{◌≡◌, ◌-◌, ◌<◌, ℕ, List, None, Some, length, arith, sym, ◌∙◌, subst}
-use Rattle.std.proofs.lemmas.Option.{slice_get_within}
-use Rattle.dict_schema.specs.declared.definition.Strategy.{Strategy}
-use Rattle.dict_value.specs.declared.value.Value.{Value}
-use Rattle.range_layout.specs.FindByRange.{AreRowsWith, FindsByRange}
-use Rattle.range_layout.specs.Kept.{AreFew, IsRangedOf, TellsIn, row_told}
-use Rattle.range_layout.specs.Points.{point_of}
-use Rattle.range_layout.specs.declared.ends.Ends.{Ends}
+use Rattle.std.proofs.Common.{◌-◌, length, arith, subst}
+use Rattle.range_layout.specs.FindByRange.{FindsByRange}
+use Rattle.range_layout.specs.Kept.{TellsIn, row_told}
 use Rattle.range_layout.proofs.EndPoints.{number-passed, point-passed}
 use Rattle.range_layout.proofs.Halving.{few-steps}
 use Rattle.range_layout.proofs.Taken.{finds-told, told-some}
-use Rattle.range_layout.proofs.ranged.Ranged.find.Given as given
 use Rattle.range_layout.proofs.ranged.Ranged.find.Goals as goal
 
 pub returns-in_default-clause-found : goal.returns-in_default-clause-found
