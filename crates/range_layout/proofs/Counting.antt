@@ -1,10 +1,10 @@
--- A key has at most two codes for each of its rows.
+-- A key has at most two borders for each of its rows.
 use Rattle.std.specs.List.Sorted.{IsStrictlyIncreasing}
 use Rattle.std.specs.Prelude.{Contains}
 use Rattle.std.proofs.Common.{◌≡◌, ◌≢◌, ◌⊎◌, ℕ, zero, suc, ◌+◌, ◌-◌, ◌*◌, ◌<◌, ◌≤◌, List, [], ◌∷◌, length, get_or, inl, inr, refl, sym, subst, arith}
 use Rattle.std.proofs.lemmas.Bool.{cases_eq, cases_lt}
-use Rattle.range_layout.specs.Pieces.{IsBorder, end_of, piece_at, start_of}
-use Rattle.range_layout.specs.declared.pieces.Piece.{Piece}
+use Rattle.range_layout.specs.Stretches.{IsBorder, end_of, stretch_at, start_of}
+use Rattle.range_layout.specs.declared.stretches.Stretch.{Stretch}
 use Rattle.range_layout.proofs.Rising.{rises-less}
 
 -- numbers at places that rise, all of which a list has, are no more than the list has
@@ -70,35 +70,35 @@ few-places (y ∷ list) n f rises all = elim (find-place f y n) [
       omega (arith, u, l)
 ]
 
--- both codes of each of some rows
-both-codes : List Piece → List ℕ → List ℕ
-both-codes pieces [] = []
-both-codes pieces (row ∷ rows) = start_of (piece_at pieces row) ∷ end_of (piece_at pieces row) ∷ both-codes pieces rows
+-- both borders of each of some rows
+both-borders : List Stretch → List ℕ → List ℕ
+both-borders stretches [] = []
+both-borders stretches (row ∷ rows) = start_of (stretch_at stretches row) ∷ end_of (stretch_at stretches row) ∷ both-borders stretches rows
 
-length-codes : (pieces : List Piece) (rows : List ℕ) → length (both-codes pieces rows) ≡ 2 * length rows
-unfolding both-codes
-length-codes pieces [] = refl
-length-codes pieces (row ∷ rows) = let e = length-codes pieces rows in omega (arith, e)
+length-borders : (stretches : List Stretch) (rows : List ℕ) → length (both-borders stretches rows) ≡ 2 * length rows
+unfolding both-borders
+length-borders stretches [] = refl
+length-borders stretches (row ∷ rows) = let e = length-borders stretches rows in omega (arith, e)
 
-codes-contain : (pieces : List Piece) (rows : List ℕ) (count row code : ℕ) → Contains rows row → IsBorder pieces count row code → Contains (both-codes pieces rows) code
-unfolding both-codes
-codes-contain pieces [] count row code (k, l, e) b = absurd (omega (arith, l))
-codes-contain pieces (r ∷ rows) count row code (zero, l, e) b =
-    elim (subst (λ (q : ℕ). IsBorder pieces count q code) (sym e) b) [
+borders-contain : (stretches : List Stretch) (rows : List ℕ) (count row border : ℕ) → Contains rows row → IsBorder stretches count row border → Contains (both-borders stretches rows) border
+unfolding both-borders
+borders-contain stretches [] count row border (k, l, e) b = absurd (omega (arith, l))
+borders-contain stretches (r ∷ rows) count row border (zero, l, e) b =
+    elim (subst (λ (q : ℕ). IsBorder stretches count q border) (sym e) b) [
       | inl is ↦ (0, omega arith, sym is)
       | inr (_, is) ↦ (1, omega arith, sym is)
     ]
-codes-contain pieces (r ∷ rows) count row code (suc k, l, e) b =
-    let h = codes-contain pieces rows count row code (k, omega (arith, l), e) b in
+borders-contain stretches (r ∷ rows) count row border (suc k, l, e) b =
+    let h = borders-contain stretches rows count row border (k, omega (arith, l), e) b in
     let w = h.1 in
     (suc (suc h.0), omega (arith, w), h.2)
 
--- rising codes, each of which is one of those of some rows, are at most two for each row
-pub few-codes : (pieces : List Piece) (rows codes : List ℕ) (count from to : ℕ) → IsStrictlyIncreasing codes → to ≤ length codes → ((i : ℕ) → from ≤ i → i < to → (row : ℕ) × Contains rows row × IsBorder pieces count row (get_or codes i 0))
+-- rising borders, each of which is one of those of some rows, are at most two for each row
+pub few-borders : (stretches : List Stretch) (rows borders : List ℕ) (count from to : ℕ) → IsStrictlyIncreasing borders → to ≤ length borders → ((i : ℕ) → from ≤ i → i < to → (row : ℕ) × Contains rows row × IsBorder stretches count row (get_or borders i 0))
     → to ≤ from + 2 * length rows
-few-codes pieces rows codes count from to rises within origin =
-    let u = few-places (both-codes pieces rows) (to - from) (λ i. get_or codes (from + i) 0)
-    (λ i j less l. rises-less codes (from + i) (from + j) rises (omega (arith, less)) (omega (arith, l, within)))
-    (λ i l. let o = origin (from + i) (omega arith) (omega (arith, l)) in codes-contain pieces rows count o.0 (get_or codes (from + i) 0) o.1 o.2) in
-    let e = length-codes pieces rows in
+few-borders stretches rows borders count from to rises within origin =
+    let u = few-places (both-borders stretches rows) (to - from) (λ i. get_or borders (from + i) 0)
+    (λ i j less l. rises-less borders (from + i) (from + j) rises (omega (arith, less)) (omega (arith, l, within)))
+    (λ i l. let o = origin (from + i) (omega arith) (omega (arith, l)) in borders-contain stretches rows count o.0 (get_or borders (from + i) 0) o.1 o.2) in
+    let e = length-borders stretches rows in
     omega (arith, u, e)

@@ -9,6 +9,6 @@ pub mod Halving
 pub mod Nths
 pub mod Numbering
 pub mod Painting
-pub mod Ranks
+pub mod RankLess
 pub mod Rising
 pub mod Taken

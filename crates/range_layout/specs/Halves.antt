@@ -6,7 +6,7 @@ abbrev pub Rises : List ℕ → ℕ → ℕ → Type 0
 Rises edges start end = (i j : ℕ) → start ≤ i → i < j → j < end → slice_index edges i < slice_index edges j
 
 -- the edges before the place are at most the point, and the others above it
-pub record IsCut (edges : List ℕ) (start end point at : ℕ) : Type 0 where
+pub record DividesEdges (edges : List ℕ) (start end point at : ℕ) : Type 0 where
   pub below : (i : ℕ) → start ≤ i → i < at → slice_index edges i ≤ point
   pub above : (i : ℕ) → at ≤ i → i < end → point < slice_index edges i
 

@@ -2,6 +2,6 @@
 pub mod FindByRange
 pub mod Halves
 pub mod Kept
-pub mod Pieces
 pub mod Points
+pub mod Stretches
 pub mod steps

@@ -1,8 +1,8 @@
 // The points at which the taken row of a key changes.
 ghost use Rattle.std.specs.Prelude.{◌≡◌, ◌≢◌, ◌+◌, ◌-◌, ◌*◌, ◌^◌, ◌<◌, ◌≤◌, ℕ, IfOk, OnOk, length, slice_index};
 ghost use Rattle.dict_value.specs.declared.value.TheConstants.{MOST_ROWS};
-ghost use Rattle.range_layout.specs.steps.Filling.{AddsEdge, AreCodes, AreEdgesOf};
-ghost use Rattle.range_layout.specs.steps.Filling.{AreKeyCodes, AreSpansIn, Keeps, number_at};
+ghost use Rattle.range_layout.specs.steps.Filling.{AddsEdge, AreBorders, AreEdgesOf};
+ghost use Rattle.range_layout.specs.steps.Filling.{AreKeyBorders, AreSpansIn, Keeps, number_at};
 
 use dict_value::{ListOf, NoMemory};
 use std::alloc::Global;
@@ -53,34 +53,35 @@ fn add_edge(
     winners.push(winner)
 }
 
-/// Appends the edges of a key whose first code, if it has any, is at a place, and answers the place behind its
-/// codes.
+/// Appends the edges of a key whose first border, if it has any, is at a place, and answers the place behind its
+/// borders.
 fn fill_span(
     points: &[u128],
-    codes: &[u128],
+    borders: &[u128],
     taken: &[u32],
     number: usize,
     from: usize,
     edges: &mut ListOf<u128>,
     winners: &mut ListOf<u32>,
 ) -> Result<usize, NoMemory>
-    requires codes { AreCodes points.now codes.now }
-    requires taken { length taken.now ≡ length codes.now }
-    requires from { from ≤ length codes.now }
-    requires before { (i : ℕ) → i < from → number_at codes.now i < number }
-    requires behind { (i : ℕ) → from ≤ i → i < length codes.now → number ≤ number_at codes.now i }
+    requires borders { AreBorders points.now borders.now }
+    requires taken { length taken.now ≡ length borders.now }
+    requires from { from ≤ length borders.now }
+    requires before { (i : ℕ) → i < from → number_at borders.now i < number }
+    requires behind { (i : ℕ) → from ≤ i → i < length borders.now → number ≤ number_at borders.now i }
     requires same { length winners.old ≡ length edges.old }
-    ensures edges { IfOk result (λ to. AreEdgesOf points.now codes.now taken.now from to edges.new winners.new
+    ensures edges { IfOk result (λ to. AreEdgesOf points.now borders.now taken.now from to edges.new winners.new
         (length edges.old) (length edges.new)) }
-    ensures codes { IfOk result (λ to. AreKeyCodes codes.now number from to) }
-    ensures behind { IfOk result (λ to. (i : ℕ) → to ≤ i → i < length codes.now → number + 1 ≤ number_at codes.now i) }
+    ensures borders { IfOk result (λ to. AreKeyBorders borders.now number from to) }
+    ensures behind { IfOk result (λ to. (i : ℕ) → to ≤ i → i < length borders.now
+        → number + 1 ≤ number_at borders.now i) }
     ensures same { IfOk result (λ _. length winners.new ≡ length edges.new) }
     ensures kept { IfOk result (λ _. Keeps edges.old edges.new × Keeps winners.old winners.new) }
 {
     let start = edges.len();
     let mut at = from;
-    while at < codes.len() && codes[at] >> 32 == number as u128 {
-        let point = points[(codes[at] % (1 << 32)) as usize];
+    while at < borders.len() && borders[at] >> 32 == number as u128 {
+        let point = points[(borders[at] % (1 << 32)) as usize];
         add_edge(start, point, taken[at], edges, winners)?;
         at += 1;
     }
@@ -91,15 +92,15 @@ fn fill_span(
 pub(crate) fn index_of(
     alloc: Global,
     points: &[u128],
-    codes: &[u128],
+    borders: &[u128],
     taken: &[u32],
     count: usize,
 ) -> Result<Index, NoMemory>
-    requires codes { AreCodes points.now codes.now }
-    requires taken { length taken.now ≡ length codes.now }
-    requires small { length codes.now < 2 ^ 32 }
-    requires numbers { (i : ℕ) → i < length codes.now → number_at codes.now i < count }
-    ensures { IfOk result (λ index. AreSpansIn points.now codes.now taken.now count
+    requires borders { AreBorders points.now borders.now }
+    requires taken { length taken.now ≡ length borders.now }
+    requires small { length borders.now < 2 ^ 32 }
+    requires numbers { (i : ℕ) → i < length borders.now → number_at borders.now i < count }
+    ensures { IfOk result (λ index. AreSpansIn points.now borders.now taken.now count
         index.spans index.edges index.winners) }
 {
     let mut spans = ListOf::with_room(alloc, count)?;
@@ -108,7 +109,7 @@ pub(crate) fn index_of(
     let mut at = 0;
     for number in 0..count {
         let start = edges.len();
-        at = fill_span(points, codes, taken, number, at, &mut edges, &mut winners)?;
+        at = fill_span(points, borders, taken, number, at, &mut edges, &mut winners)?;
         spans.push(Span {
             start: start as u32,
             end: edges.len() as u32,

@@ -5,14 +5,14 @@
 //! the key, and without taking memory. A build takes the time of a few sorts.
 #![tactic(auto)]
 
-mod cut;
+mod edges;
 mod ends;
 mod index;
-mod order;
 mod paint;
-mod pieces;
 mod points;
 mod ranged;
+mod ranks;
+mod stretches;
 #[cfg(test)]
 mod tests;
 

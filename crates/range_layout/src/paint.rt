@@ -1,15 +1,15 @@
-// Which row is taken from each code on: the codes are painted row by row, the rows that are taken first before the
-// others, and a painted code stays as it is.
+// Which row is taken from each border on: the borders are painted row by row, the rows that are taken first before the
+// others, and a painted border stays as it is.
 ghost use Rattle.std.specs.Prelude.{◌≡◌, ◌≢◌, ◌+◌, ◌-◌, ◌<◌, ◌≤◌, ◌^◌, ℕ, List, Contains, IfOk, length, slice_index};
 ghost use Rattle.std.specs.List.Sorted.{IsStrictlyIncreasing};
 ghost use Rattle.dict_value.specs.declared.value.TheConstants.{MOST_ROWS};
-ghost use Rattle.range_layout.specs.Pieces.{AreCodesOf, start_of};
+ghost use Rattle.range_layout.specs.Stretches.{AreBordersOf, start_of};
 ghost use Rattle.range_layout.specs.steps.Painting.{ArePainted, IsOnePainted, IsPainted};
-ghost use Rattle.range_layout.specs.steps.Painting.{Leads, Skips, TellsFirst, row_at};
+ghost use Rattle.range_layout.specs.steps.Painting.{Leads, PassesPainted, TellsFirst, row_at};
 
-use crate::order::row_of;
-use crate::pieces::{Piece, end_of, start_of};
 use crate::points::place_in;
+use crate::ranks::row_of;
+use crate::stretches::{Stretch, end_of, start_of};
 use dict_value::NoMemory;
 use std::alloc::Global;
 
@@ -21,8 +21,8 @@ fn skip(next: &mut Vec<u32>, from: usize) -> usize
     ensures len { length next.new.items ≡ length next.old.items }
     ensures after { from ≤ result }
     ensures within { result < length next.new.items }
-    ensures skips { (winners : List ℕ) → Skips winners next.old.items → Skips winners next.new.items }
-    ensures painted { (winners : List ℕ) → Skips winners next.old.items → ArePainted winners from result }
+    ensures skips { (winners : List ℕ) → PassesPainted winners next.old.items → PassesPainted winners next.new.items }
+    ensures painted { (winners : List ℕ) → PassesPainted winners next.old.items → ArePainted winners from result }
 {
     let mut at = from;
     while next[at] as usize != at {
@@ -40,11 +40,11 @@ fn paint_one(winners: &mut Vec<u32>, next: &mut Vec<u32>, at: usize, row: usize)
     requires small { length winners.old.items < 2 ^ 32 }
     requires len { length next.old.items ≡ length winners.old.items + 1 }
     requires leads { Leads next.old.items }
-    requires skips { Skips winners.old.items next.old.items }
+    requires skips { PassesPainted winners.old.items next.old.items }
     ensures len { length next.new.items ≡ length next.old.items }
     ensures painted { IsOnePainted row at winners.old.items winners.new.items }
     ensures leads { Leads next.new.items }
-    ensures skips { Skips winners.new.items next.new.items }
+    ensures skips { PassesPainted winners.new.items next.new.items }
 {
     if winners[at] == 0 {
         winners[at] = (row + 1) as u32;
@@ -52,52 +52,59 @@ fn paint_one(winners: &mut Vec<u32>, next: &mut Vec<u32>, at: usize, row: usize)
     next[at] = (at + 1) as u32;
 }
 
-/// Paints the codes of a piece that aren't painted yet.
-fn paint(winners: &mut Vec<u32>, next: &mut Vec<u32>, codes: &[u128], piece: Piece, row: usize)
-    requires rises { IsStrictlyIncreasing codes.now }
-    requires start { Contains codes.now (start_of piece) }
+/// Paints the borders of a stretch that aren't painted yet.
+fn paint(
+    winners: &mut Vec<u32>,
+    next: &mut Vec<u32>,
+    borders: &[u128],
+    stretch: Stretch,
+    row: usize,
+)
+    requires rises { IsStrictlyIncreasing borders.now }
+    requires start { Contains borders.now (start_of stretch) }
     requires row { row < MOST_ROWS }
-    requires small { length codes.now < 2 ^ 32 }
-    requires same { length winners.old.items ≡ length codes.now }
-    requires len { length next.old.items ≡ length codes.now + 1 }
+    requires small { length borders.now < 2 ^ 32 }
+    requires same { length winners.old.items ≡ length borders.now }
+    requires len { length next.old.items ≡ length borders.now + 1 }
     requires leads { Leads next.old.items }
-    requires skips { Skips winners.old.items next.old.items }
+    requires skips { PassesPainted winners.old.items next.old.items }
     ensures len { length next.new.items ≡ length next.old.items }
-    ensures painted { IsPainted codes.now piece row winners.old.items winners.new.items }
+    ensures painted { IsPainted borders.now stretch row winners.old.items winners.new.items }
     ensures leads { Leads next.new.items }
-    ensures skips { Skips winners.new.items next.new.items }
+    ensures skips { PassesPainted winners.new.items next.new.items }
 {
-    let end = end_of(piece);
-    let start = place_in(codes, start_of(piece));
+    let end = end_of(stretch);
+    let start = place_in(borders, start_of(stretch));
     let mut at = skip(next, start);
-    while at < codes.len() && codes[at] < end {
+    while at < borders.len() && borders[at] < end {
         paint_one(winners, next, at, row);
         at = skip(next, at + 1);
     }
 }
 
-/// One more than the row that is taken from each code on, or 0.
+/// One more than the row that is taken from each border on, or 0.
 pub(crate) fn winners_of(
     alloc: Global,
-    codes: &[u128],
-    pieces: &[Piece],
+    borders: &[u128],
+    stretches: &[Stretch],
     count: usize,
     ranks: &[u128],
 ) -> Result<Vec<u32>, NoMemory>
-    requires pieces { length pieces.now ≤ MOST_ROWS }
-    requires codes { AreCodesOf pieces.now count codes.now }
-    requires rows { (i : ℕ) → i < length ranks.now → row_at ranks.now i < length pieces.now }
-    ensures len { IfOk result (λ winners. length winners.items ≡ length codes.now) }
-    ensures told { IfOk result (λ winners. (i : ℕ) → i < length codes.now
-        → TellsFirst pieces.now ranks.now (length ranks.now) (slice_index codes.now i) (slice_index winners.items i)) }
+    requires stretches { length stretches.now ≤ MOST_ROWS }
+    requires borders { AreBordersOf stretches.now count borders.now }
+    requires rows { (i : ℕ) → i < length ranks.now → row_at ranks.now i < length stretches.now }
+    ensures len { IfOk result (λ winners. length winners.items ≡ length borders.now) }
+    ensures told { IfOk result (λ winners. (i : ℕ) → i < length borders.now
+        → TellsFirst stretches.now ranks.now (length ranks.now) (slice_index borders.now i)
+        (slice_index winners.items i)) }
 {
-    let Ok(mut winners) = Vec::from_elem(alloc, 0u32, codes.len()) else {
+    let Ok(mut winners) = Vec::from_elem(alloc, 0u32, borders.len()) else {
         return Err(NoMemory);
     };
-    let mut next = next_of(alloc, codes.len())?;
+    let mut next = next_of(alloc, borders.len())?;
     for rank in ranks {
         let row = row_of(*rank);
-        paint(&mut winners, &mut next, codes, pieces[row], row);
+        paint(&mut winners, &mut next, borders, stretches[row], row);
     }
     Ok(winners)
 }
@@ -107,7 +114,7 @@ fn next_of(alloc: Global, count: usize) -> Result<Vec<u32>, NoMemory>
     requires { count < 2 ^ 32 - 1 }
     ensures len { IfOk result (λ next. length next.items ≡ count + 1) }
     ensures leads { IfOk result (λ next. Leads next.items) }
-    ensures skips { IfOk result (λ next. (winners : List ℕ) → Skips winners next.items) }
+    ensures skips { IfOk result (λ next. (winners : List ℕ) → PassesPainted winners next.items) }
 {
     let Ok(mut next) = Vec::with_capacity(alloc, count + 1) else {
         return Err(NoMemory);

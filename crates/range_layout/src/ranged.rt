@@ -11,13 +11,13 @@ ghost use Rattle.range_layout.specs.Halves.{AreHalves, Rises};
 ghost use Rattle.range_layout.specs.Kept.{AreFew, AreSpansOver, IsRangedOf, IsSpanOf, TellsIn};
 ghost use Rattle.range_layout.specs.declared.ends.Ends.{Ends as EndsOf};
 
-use crate::cut::cut;
+use crate::edges::place_behind;
 use crate::ends::{Ends, point_of};
 use crate::index::{Span, index_of};
-use crate::order::ranks_of;
 use crate::paint::winners_of;
-use crate::pieces::{codes_of, pieces_of};
 use crate::points::points_of;
+use crate::ranks::ranks_of;
+use crate::stretches::{borders_of, stretches_of};
 use dict_schema::Strategy;
 use dict_value::{Counted, Counter, KeyList, NoMemory};
 use hashed_layout::Complex;
@@ -73,14 +73,14 @@ impl<S: Counter> Ranged<S> {
         let numbers = number_list.as_slice();
         let point_list = points_of(alloc, ends)?;
         let points = point_list.as_slice();
-        let piece_list = pieces_of(alloc, points, numbers, ends)?;
-        let pieces = piece_list.as_slice();
-        let code_list = codes_of(alloc, pieces, points.len())?;
-        let codes = code_list.as_slice();
-        let rank_list = ranks_of(alloc, strategy, ends, pieces)?;
+        let stretch_list = stretches_of(alloc, points, numbers, ends)?;
+        let stretches = stretch_list.as_slice();
+        let border_list = borders_of(alloc, stretches, points.len())?;
+        let borders = border_list.as_slice();
+        let rank_list = ranks_of(alloc, strategy, ends, stretches)?;
         let ranks = rank_list.as_slice();
-        let taken = winners_of(alloc, codes, pieces, points.len(), ranks)?;
-        let index = index_of(alloc, points, codes, taken.as_slice(), keys.len())?;
+        let taken = winners_of(alloc, borders, stretches, points.len(), ranks)?;
+        let index = index_of(alloc, points, borders, taken.as_slice(), keys.len())?;
         Ok(Ranged {
             keys: table,
             spans: Counted::from_list(index.spans),
@@ -139,7 +139,7 @@ impl<S: Counter> Ranged<S> {
             × (S.amount steps.new ≤ S.amount steps.old + (s + 1)) }
     {
         let start = span.start as usize;
-        let place = cut(&self.edges, start, span.end as usize, point, steps);
+        let place = place_behind(&self.edges, start, span.end as usize, point, steps);
         if place == start {
             return 0;
         }

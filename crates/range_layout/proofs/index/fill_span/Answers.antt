@@ -1,8 +1,8 @@
--- One code more, and the end of a key's codes.
+-- One border more, and the end of a key's borders.
 use Rattle.std.proofs.Common.{◌≡◌, ℕ, ◌%◌, ◌^◌, inl, inr, refl, sym, ◌∙◌, subst, arith, get_or, length}
 use Rattle.std.proofs.lemmas.Bool.{cases_lt}
 use Rattle.range_layout.specs.steps.Filling.{AddsEdge, number_at}
-use Rattle.range_layout.proofs.Filling.{added-keeps, edges-added, key-codes, points-less}
+use Rattle.range_layout.proofs.Filling.{added-keeps, edges-added, key-borders, points-less}
 use Rattle.range_layout.proofs.Nths.{nth-is}
 use Rattle.range_layout.proofs.index.fill_span.Goals as goal
 
@@ -11,12 +11,12 @@ loop-at-preserved c =
     let i = c.loop-at.invariant in
     let q = c.requires in
     let points = c.args.points.now in
-    let codes = c.args.codes.now in
+    let borders = c.args.borders.now in
     let taken = c.args.taken.now in
     let at = c.loop-at.at in
     let within = c.loop-at-test.true in
-    let own = c.if-codes-at.true in
-    let point = get_or points (get_or codes at 0 % 2 ^ 32) 0 in
+    let own = c.if-borders-at.true in
+    let point = get_or points (get_or borders at 0 % 2 ^ 32) 0 in
     let winner = get_or taken at 0 in
     let adds : AddsEdge c.len-start.result point winner c.loop-at.edges c.loop-at.winners c.add_edge.new.edges c.add_edge.new.winners = c.in_ok-add_edge.ensures in
     let k = added-keeps c.len-start.result point winner c.loop-at.edges c.loop-at.winners c.add_edge.new.edges c.add_edge.new.winners c.args.edges.now c.args.winners.now adds i.kept_edges i.kept_winners i.same in
@@ -26,25 +26,25 @@ loop-at-preserved c =
       within = omega (arith, within);
       own = λ j a b. elim (cases_lt j at) [
         | inl less ↦ i.own j a less
-        | inr most ↦ let e : at ≡ j = omega (arith, most, b) in subst (λ (n : ℕ). number_at codes n ≡ c.args.number) e own
+        | inr most ↦ let e : at ≡ j = omega (arith, most, b) in subst (λ (n : ℕ). number_at borders n ≡ c.args.number) e own
       ];
       same = k.2;
       kept_edges = k.0;
       kept_winners = k.1;
-      edges = edges-added points codes taken c.args.from at i.after
-          (λ j a b. points-less points codes j at q.codes b within (i.own j a b ∙ sym own))
+      edges = edges-added points borders taken c.args.from at i.after
+          (λ j a b. points-less points borders j at q.borders b within (i.own j a b ∙ sym own))
           c.loop-at.edges c.loop-at.winners c.len-start.result (length c.loop-at.edges) i.edges point winner c.add_edge.new.edges c.add_edge.new.winners
-          i.same refl (sym (nth-is points (get_or codes at 0 % 2 ^ 32) (q.codes.within at within))) refl adds;
+          i.same refl (sym (nth-is points (get_or borders at 0 % 2 ^ 32) (q.borders.within at within))) refl adds;
     }
 
-pub returns-else-codes-at-clause-codes : goal.returns-else-codes-at-clause-codes
-returns-else-codes-at-clause-codes c =
+pub returns-else-borders-at-clause-borders : goal.returns-else-borders-at-clause-borders
+returns-else-borders-at-clause-borders c =
     let i = c.loop-at.invariant in
     let q = c.requires in
-    (key-codes c.args.codes.now c.args.number c.args.from c.loop-at.at q.codes.rises q.before q.behind i.after i.within i.own (λ l. c.if-codes-at.false)).0
+    (key-borders c.args.borders.now c.args.number c.args.from c.loop-at.at q.borders.rises q.before q.behind i.after i.within i.own (λ l. c.if-borders-at.false)).0
 
-pub returns-else-codes-at-clause-behind : goal.returns-else-codes-at-clause-behind
-returns-else-codes-at-clause-behind c =
+pub returns-else-borders-at-clause-behind : goal.returns-else-borders-at-clause-behind
+returns-else-borders-at-clause-behind c =
     let i = c.loop-at.invariant in
     let q = c.requires in
-    (key-codes c.args.codes.now c.args.number c.args.from c.loop-at.at q.codes.rises q.before q.behind i.after i.within i.own (λ l. c.if-codes-at.false)).1
+    (key-borders c.args.borders.now c.args.number c.args.from c.loop-at.at q.borders.rises q.before q.behind i.after i.within i.own (λ l. c.if-borders-at.false)).1

@@ -5,9 +5,9 @@ use Rattle.range_layout.proofs.index.index_of.Given as goal
 
 abbrev pub invariant-loop-number : goal.invariant-loop-number
 invariant-loop-number l = record {
-  within : l.at ≤ length l.codes;
-  before : (i : ℕ) → i < l.at → number_at l.codes i < l.number;
-  behind : (i : ℕ) → l.at ≤ i → i < length l.codes → l.number ≤ number_at l.codes i;
+  within : l.at ≤ length l.borders;
+  before : (i : ℕ) → i < l.at → number_at l.borders i < l.number;
+  behind : (i : ℕ) → l.at ≤ i → i < length l.borders → l.number ≤ number_at l.borders i;
   few : length l.edges ≤ l.at;
-  spans : AreSpansIn l.points l.codes l.taken l.number l.spans l.edges l.winners;
+  spans : AreSpansIn l.points l.borders l.taken l.number l.spans l.edges l.winners;
 }

@@ -1,6 +1,6 @@
 -- What is passed is painted.
 use Rattle.std.proofs.Common.{◌≡◌, ◌-◌, ◌<◌, ◌≤◌, ℕ, List, length}
-use Rattle.range_layout.specs.steps.Painting.{ArePainted, Leads, Skips}
+use Rattle.range_layout.specs.steps.Painting.{ArePainted, Leads, PassesPainted}
 use Rattle.range_layout.proofs.paint.skip.Given as goal
 
 abbrev pub invariant-loop-at : goal.invariant-loop-at
@@ -9,8 +9,8 @@ invariant-loop-at l = record {
   leads : Leads l.next.items;
   after : l.from ≤ l.at;
   within : l.at < length l.next.items;
-  skips : (winners : List ℕ) → Skips winners l.initial.next.items → Skips winners l.next.items;
-  painted : (winners : List ℕ) → Skips winners l.initial.next.items → ArePainted winners l.from l.at;
+  skips : (winners : List ℕ) → PassesPainted winners l.initial.next.items → PassesPainted winners l.next.items;
+  painted : (winners : List ℕ) → PassesPainted winners l.initial.next.items → ArePainted winners l.from l.at;
 }
 
 abbrev pub decreases-loop-at : goal.decreases-loop-at

@@ -1,6 +1,6 @@
--- The risen list has the same codes.
+-- The risen list has the same borders.
 use Rattle.std.proofs.Common.{arith}
-use Rattle.range_layout.proofs.pieces.codes_of.Goals as goal
+use Rattle.range_layout.proofs.stretches.borders_of.Goals as goal
 
 pub returns-in-Ok : goal.returns-in-Ok
 returns-in-Ok c =
@@ -11,6 +11,6 @@ returns-in-Ok c =
     record {
       rises = r.rises;
       few = omega (arith, l, m);
-      each = λ row code less border. (r.each code).1 (a.each row code less border);
-      origin = λ code h. a.origin code ((r.each code).0 h);
+      each = λ row border less is. (r.each border).1 (a.each row border less is);
+      origin = λ border h. a.origin border ((r.each border).0 h);
     }

@@ -1,7 +1,7 @@
 -- The edges before the gap are at most the point, and those behind it above.
 use Rattle.std.proofs.Common.{ℕ, ◌-◌, ◌<◌, ◌≤◌, get_or}
 use Rattle.range_layout.specs.Halves.{IsHalved, Rises}
-use Rattle.range_layout.proofs.cut.cut.Given as goal
+use Rattle.range_layout.proofs.edges.place_behind.Given as goal
 
 abbrev pub invariant-loop-low : goal.invariant-loop-low
 invariant-loop-low g l = record {

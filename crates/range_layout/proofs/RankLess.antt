@@ -5,13 +5,13 @@ use Rattle.std.proofs.lemmas.Bool.{cases_lt}
 use Rattle.dict_schema.specs.declared.definition.Strategy.{Strategy}
 use Rattle.dict_schema.specs.declared.definition.Strategy.TheVariants.{Min, Max}
 use Rattle.range_layout.specs.FindByRange.{IsLowerEnd, IsLowerStart, Precedes}
-use Rattle.range_layout.specs.Pieces.{IsPieceOf, end_rank, rank_of, start_rank}
+use Rattle.range_layout.specs.Stretches.{IsStretchOf, end_rank, rank_of, start_rank}
 use Rattle.range_layout.specs.Points.{FitsEnd, low_point, nth_point, past_point}
 use Rattle.range_layout.specs.declared.ends.End.{End}
 use Rattle.range_layout.specs.declared.ends.End.TheVariants.{Free, At}
 use Rattle.range_layout.specs.declared.ends.Ends.{Ends}
-use Rattle.range_layout.specs.declared.order.TheConstants.{ABOVE}
-use Rattle.range_layout.specs.declared.pieces.Piece.{Piece}
+use Rattle.range_layout.specs.declared.ranks.TheConstants.{ABOVE}
+use Rattle.range_layout.specs.declared.stretches.Stretch.{Stretch}
 use Rattle.range_layout.proofs.EndPoints.{point-less}
 use Rattle.range_layout.proofs.Nths.{nth-below, nth-place}
 
@@ -71,7 +71,7 @@ module _ (points : List ℕ) (rises : IsStrictlyIncreasing points) (small : (i :
   ordered s t e f i j ls lt le lf li lj (inr (q, inr (r, l))) = omega (arith, ls, lt, le, lf, li, lj, q, r, l)
 
   -- the row that comes before another has the lower rank
-  pub rank-less : (strategy : Strategy) (a b : Ends) (number other : ℕ) (p q : Piece) (i j : ℕ) → length points < ABOVE → i < 2 ^ 32 → j < 2 ^ 32 → IsPieceOf points number a p → IsPieceOf points other b q
+  pub rank-less : (strategy : Strategy) (a b : Ends) (number other : ℕ) (p q : Stretch) (i j : ℕ) → length points < ABOVE → i < 2 ^ 32 → j < 2 ^ 32 → IsStretchOf points number a p → IsStretchOf points other b q
       → Precedes strategy a i b j → rank_of strategy a p i < rank_of strategy b q j
   rank-less Min a b number other p q i j few li lj pa pb before =
       let wp = pa.low_within in

@@ -1,7 +1,7 @@
 -- The lower or the upper half.
 use Rattle.std.proofs.Common.{◌-◌, arith}
 use Rattle.range_layout.proofs.Halving.{above-more, below-more, halved-more}
-use Rattle.range_layout.proofs.cut.cut.Goals as goal
+use Rattle.range_layout.proofs.edges.place_behind.Goals as goal
 
 pub loop-low-preserved-then-at-point : goal.loop-low-preserved-then-at-point
 loop-low-preserved-then-at-point g c =
