@@ -1,6 +1,6 @@
 // The plain program that the proved one is compared with: an array for small keys, and std's HashMap for
 // keys of 64 bits and for the bytes of keys of two values; a trie of one bit a level for prefixes; std's HashMap
-// from keys to parents for chains. The words and the keys are those of crates/bench_lookups.
+// from keys to parents for chains, and from keys to lists of ranges, which are scanned. The words and the keys are those of crates/bench_lookups.
 use std::collections::HashMap;
 use std::hash::Hash;
 use std::time::Instant;
@@ -150,6 +150,78 @@ fn chain(parents: &HashMap<u64, Option<u64>>, key: u64) -> Vec<u64> {
     chain
 }
 
+/// A row's range, as it is scanned.
+#[derive(Clone, Copy)]
+struct Range {
+    low: i128,
+    high: i128,
+    row: u32,
+}
+
+fn key_count(kind: &str, count: u64) -> u64 {
+    if kind == "ranges" { (count / 10).max(1) } else { 1 }
+}
+
+fn ranges_of(kind: &str, count: u64) -> HashMap<u64, Vec<Range>> {
+    let keys = key_count(kind, count);
+    let mut map: HashMap<u64, Vec<Range>> = HashMap::new();
+    for row in 0..count {
+        let (start, width) = (scattered(row), scattered(row ^ (1 << 41)));
+        let (low, width) = if kind == "ranges" {
+            (row / keys * 100 + start % 50, width % 200)
+        } else {
+            (start % 1_000_000_000, width % 1_000_000_000)
+        };
+        let (low, high) = (i128::from(low), i128::from(low) + i128::from(width));
+        map.entry(scattered(row % keys)).or_default().push(Range {
+            low,
+            high,
+            row: row as u32,
+        });
+    }
+    map
+}
+
+/// Of the ranges that hold the point the one with the greatest start, then the greatest end, then the first.
+fn scan(ranges: &[Range], point: i128) -> Option<u32> {
+    let mut best: Option<Range> = None;
+    for range in ranges {
+        if range.low <= point && point <= range.high {
+            match best {
+                Some(best) if (best.low, best.high) >= (range.low, range.high) => {}
+                _ => best = Some(*range),
+            }
+        }
+    }
+    best.map(|range| range.row)
+}
+
+/// Times scans of a key's ranges.
+fn scans(kind: &str, count: u64, finds: u64, rounds: u64) {
+    let keys = key_count(kind, count);
+    let most = if kind == "ranges" { 1_000 } else { 2_000_000_000 };
+    let asked: Vec<(u64, i128)> = (0..finds)
+        .map(|find| {
+            let number = scattered(find + 4_294_967_296);
+            (scattered(number % keys), i128::from(scattered(number) % most))
+        })
+        .collect();
+    let (mut build, mut find) = (u128::MAX, u128::MAX);
+    for round in 0..=rounds {
+        let start = Instant::now();
+        let map = ranges_of(kind, count);
+        let middle = Instant::now();
+        let (hits, sum) = found(&asked, |(key, point)| map.get(key).and_then(|ranges| scan(ranges, *point)));
+        let end = Instant::now();
+        build = build.min((middle - start).as_micros());
+        find = find.min((end - middle).as_micros());
+        if round == 0 {
+            println!("found {hits} sum {sum}");
+        }
+    }
+    println!("{build} {find}");
+}
+
 /// Times a search by address or of chains.
 fn search(kind: &str, count: u64, finds: u64, rounds: u64) {
     let drawn: Vec<u64> = (0..finds).map(|find| scattered(find + 4_294_967_296)).collect();
@@ -204,6 +276,9 @@ fn main() {
     let numbers: Vec<u64> = words[3..6].iter().map(|word| word.parse().unwrap()).collect();
     if matches!(layout, "v4" | "v6" | "chains") {
         return search(layout, numbers[0], numbers[1], numbers[2]);
+    }
+    if matches!(layout, "ranges" | "overlaps") {
+        return scans(layout, numbers[0], numbers[1], numbers[2]);
     }
     let keys: Vec<u64> = (0..numbers[0]).map(|row| key(layout, numbers[0], row)).collect();
     let asked = asked(layout, share, numbers[0], numbers[1]);

@@ -1,11 +1,12 @@
-//! Times lookups by key, by address, and of chains of parents. The words are a layout, `flat`, `hashed` or
-//! `complex`, or a search, `v4`, `v6` or `chains`; which keys of a layout are asked, `half`, `all` or `none` of them
+//! Times lookups by key, by address, by range, and of chains of parents. The words are a layout, `flat`, `hashed`
+//! or `complex`, or a search, `v4`, `v6`, `chains`, `ranges` or `overlaps`; which keys of a layout are asked, `half`, `all` or `none` of them
 //! there; how many keys and how many finds, and a number of rounds. The program
 //! prints how many were found and, for more than no rounds, the shortest build and the shortest run of
 //! finds in microseconds.
 #![tactic(auto)]
 
 mod key_source;
+mod ranges;
 mod searches;
 
 use dict_value::{KeyList, MOST_ROWS, Uncounted};
@@ -123,7 +124,7 @@ struct Size {
     rounds: u32,
 }
 
-/// Times a search by address or of chains.
+/// Times a search by address, by range or of chains.
 fn time_search<R: Clock + Print>(
     rt: &R,
     alloc: Global,

@@ -1,8 +1,11 @@
-// Searches by address, and chains of parents: what is stored, what is asked, and what was found.
+// Searches by address and by range, and chains of parents: what is stored, what is asked, and what was found.
 use crate::key_source::scattered;
-use dict_value::{Address, Bytes, MOST_ROWS, Uncounted};
+use crate::ranges::{self, Question, Spread};
+use dict_schema::Strategy;
+use dict_value::{Address, Bytes, KeyList, MOST_ROWS, Uncounted};
 use hier::{Hier, Parent};
 use ip_trie::Trie;
+use range_layout::{Ends, Ranged};
 use std::alloc::Global;
 use std::io;
 
@@ -12,6 +15,7 @@ pub enum Search {
     V4,
     V6,
     Chains,
+    Ranges(Spread),
 }
 
 pub fn search_of(word: &str) -> Option<Search> {
@@ -19,6 +23,8 @@ pub fn search_of(word: &str) -> Option<Search> {
         "v4" => Some(Search::V4),
         "v6" => Some(Search::V6),
         "chains" => Some(Search::Chains),
+        "ranges" => Some(Search::Ranges(Spread::Ten)),
+        "overlaps" => Some(Search::Ranges(Spread::One)),
         _ => None,
     }
 }
@@ -28,6 +34,7 @@ pub fn search_of(word: &str) -> Option<Search> {
 pub enum Rows {
     Texts(Vec<Bytes>),
     Parents(Vec<u64>, Vec<Parent>),
+    Ranges(Vec<KeyList>, Vec<Ends>),
 }
 
 /// What is timed.
@@ -35,6 +42,7 @@ pub enum Rows {
 pub enum Searched {
     Trie(Trie<Uncounted>),
     Hier(Hier),
+    Ranged(Ranged<Uncounted>),
 }
 
 /// What is asked.
@@ -42,6 +50,7 @@ pub enum Searched {
 pub enum Asked {
     Addresses(Vec<Address>),
     Keys(Vec<u64>),
+    Points(Vec<Question>),
 }
 
 /// The bits of an IPv6 prefix: 2000::/3 and scattered ones.
@@ -60,7 +69,7 @@ fn prefix_text(alloc: Global, search: Search, number: u64) -> io::Result<Vec<u8>
                 "{a:02x}{b:02x}:{c:02x}{d:02x}:{e:02x}{f:02x}:{g:02x}{h:02x}::/{len}"
             )?
         }
-        Search::V4 | Search::Chains => {
+        Search::V4 | Search::Chains | Search::Ranges(_) => {
             let [a, b, c, d, ..] = scattered(number).to_be_bytes();
             let len = 8 + scattered(number ^ (1 << 41)) % 17;
             format!(in alloc; "{a}.{b}.{c}.{d}/{len}")?
@@ -92,13 +101,18 @@ pub fn stored_rows(alloc: Global, search: Search, count: u32) -> io::Result<Rows
             }
             Ok(Rows::Parents(keys, parents))
         }
+        Search::Ranges(spread) => {
+            let (keys, ends) = ranges::rows(alloc, spread, count)?;
+            Ok(Rows::Ranges(keys, ends))
+        }
     }
 }
 
-/// What is asked: scattered IPv4 addresses, scattered addresses of stored IPv6 prefixes, or the first keys of
-/// chains.
-pub fn drawn(alloc: Global, search: Search, count: u32, finds: u32) -> io::Result<Asked> {
-    let count = u64::from(count).max(1);
+/// What is asked: scattered IPv4 addresses, scattered addresses of stored IPv6 prefixes, the first keys of
+/// chains, or scattered points of keys.
+pub fn drawn(alloc: Global, search: Search, rows: u32, finds: u32) -> io::Result<Asked> {
+    let count = u64::from(rows).max(1);
+    let mut points = Vec::new(alloc);
     let mut addresses = Vec::new(alloc);
     let mut keys = Vec::new(alloc);
     for find in 0..finds {
@@ -110,11 +124,15 @@ pub fn drawn(alloc: Global, search: Search, count: u32, finds: u32) -> io::Resul
                 addresses.push(Address::V6(wide(number % count) ^ u128::from(low)))?
             }
             Search::Chains => keys.push(scattered(number % count / 10 * 10))?,
+            Search::Ranges(spread) => {
+                points.push(ranges::asked_at(alloc, spread, rows, number)?)?
+            }
         }
     }
     Ok(match search {
         Search::V4 | Search::V6 => Asked::Addresses(addresses),
         Search::Chains => Asked::Keys(keys),
+        Search::Ranges(_) => Asked::Points(points),
     })
 }
 
@@ -130,6 +148,12 @@ pub fn searched_of(alloc: Global, rows: &Rows) -> Option<Searched> {
         Rows::Parents(keys, parents) if keys.len() <= MOST_ROWS && parents.len() == keys.len() => {
             match Hier::build(alloc, keys.as_slice(), parents.as_slice()) {
                 Ok(hier) => Some(Searched::Hier(hier)),
+                Err(_) => None,
+            }
+        }
+        Rows::Ranges(keys, ends) if keys.len() <= MOST_ROWS && ends.len() == keys.len() => {
+            match Ranged::build(alloc, keys.as_slice(), ends.as_slice(), Strategy::Max) {
+                Ok(ranged) => Some(Searched::Ranged(ranged)),
                 Err(_) => None,
             }
         }
@@ -157,6 +181,14 @@ pub fn found(alloc: Global, searched: &Searched, asked: &Asked) -> (u64, u64) {
                         count = count.wrapping_add(1);
                         sum = sum.wrapping_add(*member);
                     }
+                }
+            }
+        }
+        (Searched::Ranged(ranged), Asked::Points(points)) => {
+            for asked in points {
+                if let Some(row) = ranged.find(&asked.key, asked.point, &mut Uncounted) {
+                    count = count.wrapping_add(1);
+                    sum = sum.wrapping_add(u64::from(row));
                 }
             }
         }

@@ -1,0 +1,3 @@
+-- Relations of the loops.
+pub mod Filling
+pub mod Painting
