@@ -1,4 +1,4 @@
-use Rattle.std.proofs.Common.{◌++◌, ◌∷◌, ◌∙◌, [], List, length, ap, sym, arith}
+use Rattle.std.proofs.Common.{◌++◌, ◌∷◌, ◌∙◌, [], List, ap, sym, arith}
 use Rattle.std.proofs.lemmas.List.{take_all}
 use Rattle.dict_value.specs.declared.value.AttrType.{AttrType}
 use Rattle.row_text.specs.Fitting.{ReadsFitting}
