@@ -41,7 +41,7 @@ fn is_text(t: ColType) -> bool
 }
 
 /// The number that is kept of a signed value, in two's complement.
-#[inline]
+#[inline(always)]
 fn signed_number(z: i64, t: ColType) -> u64
     requires { FitsSigned (signed_width t) z }
     ensures { result ≡ cast_unsigned (signed_width t) z }
@@ -55,7 +55,7 @@ fn signed_number(z: i64, t: ColType) -> u64
 }
 
 /// The number that is kept of a cell, given where the text ends behind it.
-#[inline]
+#[inline(always)]
 fn number_of(cell: &Cell<'_>, ty: AttrType, end: u64) -> u128
     requires { FitsColumn ty (meaning cell.now) }
     ensures { result ≡ number_of ty.base end (meaning cell.now) }
@@ -74,7 +74,7 @@ fn number_of(cell: &Cell<'_>, ty: AttrType, end: u64) -> u128
     }
 }
 
-#[inline]
+#[inline(always)]
 fn is_null(cell: &Cell<'_>) -> bool
     ensures { result ≡ is_null (meaning cell.now) }
 {
@@ -93,7 +93,7 @@ fn empty_column(alloc: Global, ty: AttrType) -> Column
 }
 
 /// Appends the text of a String.
-#[inline]
+#[inline(always)]
 fn push_text(text: &mut Bytes, cell: &Cell<'_>) -> Result<(), NoMemory>
     ensures ok { OnOk result (text.new ≡ text.old ++ text_of_value (meaning cell.now)) }
     ensures err { OnErr result (text.new ≡ text.old) }
@@ -105,7 +105,7 @@ fn push_text(text: &mut Bytes, cell: &Cell<'_>) -> Result<(), NoMemory>
 }
 
 /// Adds a cell to a column.
-#[inline]
+#[inline(always)]
 fn grow(column: &mut Column, n: u128, null: bool) -> Result<(), NoMemory>
     requires fits { n < limit_of (width_of column.old.ty.base) }
     requires few { column.old.ty.nullable ≡ true → length column.old.nulls < 4294967295 }
@@ -176,7 +176,7 @@ impl RowsBuilder {
     }
 
     /// Adds a value to the open row; after `NoMemory` all is as it was.
-    #[inline]
+    #[inline(always)]
     pub fn push_cell(&mut self, cell: &Cell<'_>) -> Result<(), NoMemory>
         requires room { length self.old.open_row < length self.old.types }
         requires few { length self.old.rows < 4294967295 }

@@ -66,7 +66,7 @@ fn push_line<C: Columns>(
 }
 
 /// Adds the value of a text to the open row.
-#[inline]
+#[inline(always)]
 fn push_piece<C: Columns>(
     alloc: Global,
     columns: &C,

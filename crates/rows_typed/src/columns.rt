@@ -72,7 +72,7 @@ fn is_end(role: Role) -> bool
 }
 
 /// What a column makes of a text, where that is a value without memory; None leaves a text to `read_field`.
-#[inline]
+#[inline(always)]
 fn read_cell<'a>(
     alloc: Global,
     format: Format,
@@ -88,7 +88,7 @@ fn read_cell<'a>(
 }
 
 /// What a column makes of a text of CSV, where that is a value without memory.
-#[inline]
+#[inline(always)]
 fn csv_cell<'a>(alloc: Global, column: &'a ShapeColumn, text: &'a [u8]) -> Option<Cell<'a>>
     ensures { IfSome result (λ cell. column_by Format.Csv column.now (Field.Text text.now) ≡ Ok (meaning cell)) }
 {
@@ -99,7 +99,7 @@ fn csv_cell<'a>(alloc: Global, column: &'a ShapeColumn, text: &'a [u8]) -> Optio
 }
 
 /// What a type sees of a text of CSV; nothing where that is NULL.
-#[inline]
+#[inline(always)]
 fn seen_text(ty: AttrType, text: &[u8]) -> Option<&[u8]>
     ensures null { IfNone result (seen_text ty.base ty.nullable text.now ≡ Field.Null) }
     ensures text { IfSome result (λ seen. seen_text ty.base ty.nullable text.now ≡ Field.Text seen.now) }
@@ -113,7 +113,7 @@ fn seen_text(ty: AttrType, text: &[u8]) -> Option<&[u8]>
 }
 
 /// A text that isn't `\N`.
-#[inline]
+#[inline(always)]
 fn unless_null(text: &[u8]) -> Option<&[u8]>
     ensures null { IfNone result (null_or_text text.now ≡ Field.Null) }
     ensures text { IfSome result (λ seen. null_or_text text.now ≡ Field.Text seen.now) }
@@ -135,7 +135,7 @@ fn null_cell(column: &ShapeColumn) -> Option<Cell<'_>>
 }
 
 /// The value of a text at a type, where it lies; None where it has none.
-#[inline]
+#[inline(always)]
 fn text_cell<'a>(alloc: Global, base: ColType, text: &'a [u8]) -> Option<Cell<'a>>
     ensures { IfSome result (λ cell. text_reading base text.now ≡ Ok (meaning cell)) }
 {
@@ -150,7 +150,7 @@ fn text_cell<'a>(alloc: Global, base: ColType, text: &'a [u8]) -> Option<Cell<'a
 }
 
 /// The value of digits at an unsigned type whose greatest number is `most`.
-#[inline]
+#[inline(always)]
 fn number_cell<'a>(base: ColType, text: &[u8], most: u64) -> Option<Cell<'a>>
     requires { IsUnsigned base most }
     ensures { IfSome result (λ cell. text_reading base text.now ≡ Ok (meaning cell)) }

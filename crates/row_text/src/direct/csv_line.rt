@@ -29,55 +29,28 @@ pub(super) fn push_line<C: Columns>(
     ensures rows { rows.new.rows ≡ rows.old.rows }
     ensures row { IfSome result (λ size. BeginsWithRow Csv (C.columns columns.now) text.now size rows.new.open_row) }
 {
+    if text.is_empty() || text[0] == MARK {
+        return None;
+    }
     let count = columns.count();
-    if count == 0 || text.is_empty() || text[0] == MARK {
-        return None;
-    }
-    let at = push_texts(alloc, columns, count - 1, text, rows)?;
-    let left = &text[at..];
-    let (size, end) = text_end(left)?;
-    if end != LINE_FEED || at + size == 0 {
-        return None;
-    }
-    push_piece(alloc, columns, count - 1, &left[..size], rows)?;
-    Some(at + size + 1)
-}
-
-/// Adds the values of the first texts of a line, each of which a comma ends, and answers where the next text
-/// begins.
-#[inline]
-fn push_texts<C: Columns>(
-    alloc: Global,
-    columns: &C,
-    count: usize,
-    text: &[u8],
-    rows: &mut RowsBuilder,
-) -> Option<usize>
-    requires fit { AllFit (C.columns columns.now) (C.types columns.now) }
-    requires types { rows.old.types ≡ C.types columns.now }
-    requires none { rows.old.open_row ≡ [] }
-    requires few { length rows.old.rows < MOST_ROWS }
-    requires within { count < length (C.columns columns.now) }
-    ensures types { rows.new.types ≡ rows.old.types }
-    ensures rows { rows.new.rows ≡ rows.old.rows }
-    ensures texts { IfSome result (λ at. (length rows.new.open_row ≡ count)
-        × HasTextsTaken (C.columns columns.now) text.now at rows.new.open_row) }
-{
     let mut at = 0;
     for place in 0..count {
         let left = &text[at..];
         let (size, end) = text_end(left)?;
-        if end != COMMA {
-            return None;
-        }
         push_piece(alloc, columns, place, &left[..size], rows)?;
+        if end != COMMA {
+            if place + 1 < count || end != LINE_FEED || at + size == 0 {
+                return None;
+            }
+            return Some(at + size + 1);
+        }
         at += size + 1;
     }
-    Some(at)
+    None
 }
 
 /// Where the first comma, quote or line end of a text stands, and which of them it is.
-#[inline]
+#[inline(always)]
 fn text_end(text: &[u8]) -> Option<(usize, u8)>
     ensures { IfSome result (λ end. EndsText text.now end.0 end.1) }
 {

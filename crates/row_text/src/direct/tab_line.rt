@@ -1,9 +1,10 @@
 // Rows of TabSeparated text, field by field where they lie.
-ghost use Rattle.std.specs.Prelude.{◌≡◌, ◌<◌, [], true, length, IfSome};
+ghost use Rattle.std.specs.Prelude.{◌≡◌, ◌<◌, ◌≤◌, [], true, length, take, IfSome};
 ghost use Rattle.dict_value.specs.declared.value.Format.TheVariants.{Tab};
 ghost use Rattle.dict_value.specs.declared.value.TheConstants.{MOST_ROWS};
+ghost use Rattle.std.specs.List.{AllByRecursion};
 ghost use Rattle.row_text.specs.Fitting.{AllFit};
-ghost use Rattle.row_text.specs.steps.DirectSteps.{AddsField, BeginsWithRow, EndsPiece, HasFieldsTaken, LacksReturn, Unescapes};
+ghost use Rattle.row_text.specs.steps.DirectSteps.{AddsField, BeginsWithRow, EndsPiece, LacksReturn, IsQuiet, Unescapes};
 
 use super::{push_null, push_piece};
 use crate::columns::Columns;
@@ -13,6 +14,9 @@ use dict_value::letters::{BACKSLASH, CARRIAGE_RETURN, LINE_FEED, TAB};
 use memchr::memchr3;
 use packed_rows::RowsBuilder;
 use std::alloc::Global;
+
+/// How many bytes are looked at one by one.
+const NEAR: usize = 32;
 
 /// Adds the values of the first line of a text to the open row.
 #[inline]
@@ -32,53 +36,24 @@ pub(super) fn push_line<C: Columns>(
     ensures row { IfSome result (λ size. BeginsWithRow Tab (C.columns columns.now) text.now size rows.new.open_row) }
 {
     let count = columns.count();
-    if count == 0 {
-        return None;
-    }
-    let at = push_fields(alloc, columns, count - 1, text, scratch, rows)?;
-    let left = &text[at..];
-    let (size, end) = push_field(alloc, columns, count - 1, left, scratch, rows)?;
-    if end != LINE_FEED || !lacks_return(&left[..size]) {
-        return None;
-    }
-    Some(at + size + 1)
-}
-
-/// Adds the values of the first fields of a text, each of which a tab ends, and answers where the next field
-/// begins.
-#[inline]
-fn push_fields<C: Columns>(
-    alloc: Global,
-    columns: &C,
-    count: usize,
-    text: &[u8],
-    scratch: &mut Bytes,
-    rows: &mut RowsBuilder,
-) -> Option<usize>
-    requires fit { AllFit (C.columns columns.now) (C.types columns.now) }
-    requires types { rows.old.types ≡ C.types columns.now }
-    requires none { rows.old.open_row ≡ [] }
-    requires few { length rows.old.rows < MOST_ROWS }
-    requires within { count < length (C.columns columns.now) }
-    ensures types { rows.new.types ≡ rows.old.types }
-    ensures rows { rows.new.rows ≡ rows.old.rows }
-    ensures fields { IfSome result (λ at. (length rows.new.open_row ≡ count)
-        × HasFieldsTaken (C.columns columns.now) text.now at rows.new.open_row) }
-{
     let mut at = 0;
     for place in 0..count {
-        let (size, end) = push_field(alloc, columns, place, &text[at..], scratch, rows)?;
+        let left = &text[at..];
+        let (size, end) = push_field(alloc, columns, place, left, scratch, rows)?;
         if end != TAB {
-            return None;
+            if place + 1 < count || end != LINE_FEED || !lacks_return(&left[..size]) {
+                return None;
+            }
+            return Some(at + size + 1);
         }
         at += size + 1;
     }
-    Some(at)
+    None
 }
 
 /// Adds the value of the first field of a text to the open row. The answer is where the field ends, and the
 /// byte there.
-#[inline]
+#[inline(always)]
 fn push_field<C: Columns>(
     alloc: Global,
     columns: &C,
@@ -165,9 +140,33 @@ fn lacks_return(piece: &[u8]) -> bool
     piece.is_empty() || piece[piece.len() - 1] != CARRIAGE_RETURN
 }
 
-/// Where the first tab, line feed or backslash of a text stands, and which of them it is.
-#[inline]
+/// Where the first tab, line feed or backslash of a text stands, and which of them it is. Most stand near, where a
+/// look at byte after byte is quicker than a search.
+#[inline(always)]
 fn piece_end(text: &[u8]) -> Option<(usize, u8)>
+    ensures { IfSome result (λ end. EndsPiece text.now end.0 end.1) }
+{
+    let near = &text[..text.len().min(NEAR)];
+    for (place, b) in near.iter().enumerate() {
+        if matches!(*b, TAB | LINE_FEED | BACKSLASH) {
+            return Some((place, *b));
+        }
+    }
+    far_end(text, near.len())
+}
+
+/// The same, where none stands before a place.
+fn far_end(text: &[u8], from: usize) -> Option<(usize, u8)>
+    requires within { from ≤ length text.now }
+    requires quiet { AllByRecursion IsQuiet (take from text.now) }
+    ensures { IfSome result (λ end. EndsPiece text.now end.0 end.1) }
+{
+    let (size, end) = searched_end(&text[from..])?;
+    Some((from + size, end))
+}
+
+/// The same by a search, which is quick in long texts.
+fn searched_end(text: &[u8]) -> Option<(usize, u8)>
     ensures { IfSome result (λ end. EndsPiece text.now end.0 end.1) }
 {
     let size = memchr3(TAB, LINE_FEED, BACKSLASH, text)?;

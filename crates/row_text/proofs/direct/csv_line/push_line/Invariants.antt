@@ -1,6 +1,6 @@
 use Rattle.std.proofs.Common.{◌≡◌, length}
 use Rattle.row_text.specs.steps.DirectSteps.{HasTextsTaken}
-use Rattle.row_text.proofs.direct.csv_line.push_texts.Given as goal
+use Rattle.row_text.proofs.direct.csv_line.push_line.Given as goal
 
 abbrev pub invariant-loop-place : goal.invariant-loop-place
 invariant-loop-place g l = record {
