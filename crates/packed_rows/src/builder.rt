@@ -81,15 +81,33 @@ fn is_null(cell: &Cell<'_>) -> bool
     matches!(*cell, Cell::Null)
 }
 
-/// A column without a cell.
-fn empty_column(alloc: Global, ty: AttrType) -> Column
+/// No bytes, with room for so many where there is memory for them.
+fn room_for(alloc: Global, count: usize) -> Bytes
+    ensures { result ≡ [] }
+{
+    if count == 0 {
+        return Bytes::new(alloc);
+    }
+    match Bytes::with_room(alloc, count) {
+        Ok(bytes) => bytes,
+        Err(_) => Bytes::new(alloc),
+    }
+}
+
+/// A column without a cell, with room for so many.
+fn empty_column(alloc: Global, ty: AttrType, rows: usize) -> Column
     ensures { (result.ty ≡ ty) × (result.cells ≡ []) × (result.nulls ≡ []) }
 {
     Column {
         ty,
-        cells: Bytes::new(alloc),
+        cells: room_for(alloc, rows.saturating_mul(bytes_in(width_of(ty.base)))),
         nulls: Bits::new(alloc),
     }
+}
+
+/// Whether a type is that of a text.
+fn has_text(types: &[AttrType]) -> bool {
+    types.iter().any(|ty| is_text(ty.base))
 }
 
 /// Appends the text of a String.
@@ -153,16 +171,28 @@ impl RowsBuilder {
     pub fn new(alloc: Global, types: &[AttrType]) -> Result<RowsBuilder, NoMemory>
         ensures { IfOk result (λ b. (b.types ≡ types.now) × (b.rows ≡ []) × (b.open_row ≡ [])) }
     {
+        RowsBuilder::with_room(alloc, types, 0, 0)
+    }
+
+    /// The same with room for so many rows, whose texts have so many bytes, where there is memory for them.
+    pub fn with_room(
+        alloc: Global,
+        types: &[AttrType],
+        rows: usize,
+        text: usize,
+    ) -> Result<RowsBuilder, NoMemory>
+        ensures { IfOk result (λ b. (b.types ≡ types.now) × (b.rows ≡ []) × (b.open_row ≡ [])) }
+    {
         let mut columns = Vec::new(alloc);
         for ty in types {
-            match columns.push(empty_column(alloc, *ty)) {
+            match columns.push(empty_column(alloc, *ty, rows)) {
                 Ok(()) => {}
                 Err(_) => return Err(NoMemory),
             }
         }
         Ok(RowsBuilder {
             columns,
-            text: Bytes::new(alloc),
+            text: room_for(alloc, if has_text(types) { text } else { 0 }),
             rows: 0,
             place: 0,
         })

@@ -3,7 +3,6 @@ use Rattle.std.proofs.Common.{◌≡◌, ◌≢◌, ◌≤◌, ◌<◌, ◌+◌,
 use Rattle.std.specs.Prelude.{IsSome}
 use Rattle.std.specs.List.{AllByRecursion, flat_map}
 use Rattle.std.proofs.lemmas.List.{append-nil, get_or_at, get_or_default, length-append, length-drop, take-append-drop, take_more, take_rest}
-use Rattle.std.proofs.Math.Seq.{take-add}
 use Rattle.std.proofs.lemmas.Bool.{cases_Bool, eqb-false, eqb-true}
 use Rattle.dict_value.specs.Escapes.{hex_digit}
 use Rattle.dict_value.specs.declared.letters.TheConstants.{BACKSLASH, CARRIAGE_RETURN, LETTER_X, LINE_FEED, TAB}
@@ -106,15 +105,6 @@ piece-marks text size byte piece = record {
 pub piece-adds : (columns : List Reader) (text : List ℕ) (size byte : ℕ) (old new : List Value) → EndsPiece text size byte → AddsValue columns (field.Text (take size text)) old new → AddsField columns text size byte old new
 piece-adds columns text size byte old new piece adds =
     (map bare (take size text), piece-marks text size byte piece, subst (λ (f : Field). AddsValue columns f old new) (sym (bare-field (take size text))) adds)
-
--- quiet bytes before a place, and more from there on
-pub ends-further : (text : List ℕ) (from size byte : ℕ) → from ≤ length text → AllByRecursion IsQuiet (take from text) → EndsPiece (suffix text from) size byte → EndsPiece text (from + size) byte
-ends-further text from size byte within quiet piece = (
-  place-within text from size within piece.0,
-  rw (take-add from size text) (all-append IsQuiet (take from text) (take size (drop from text)) quiet
-      (subst (λ (t : List ℕ). AllByRecursion IsQuiet (take size t)) (take_rest text from) piece.1)),
-  sym (at-suffix text from size) ∙ piece.2,
-)
 
 -- marks up to a place, and quiet bytes from there on
 pub piece-behind : (text : List ℕ) (at size byte : ℕ) (marks : List Mark) → Reaches text at marks → AllByRecursion EndsNoLine marks → EndsPiece (suffix text at) size byte

@@ -13,9 +13,11 @@ use crate::csv_row::{is_blank_line, read_csv_row};
 use crate::cutter::{CutRule, first_line};
 use crate::direct::take_row;
 use crate::tab_row::read_fields;
+use dict_value::letters::LINE_FEED;
 use dict_value::{
     BadRow, BadValue, Bytes, Fields, Format, LineFault, ListOf, MOST_ROWS, NoMemory, Row, Why,
 };
+use memchr::memchr;
 use packed_rows::{Rows, RowsBuilder, cell_of};
 use std::alloc::Global;
 
@@ -43,7 +45,7 @@ pub fn decode_rows<C: Columns>(
         (Decodes format (C.columns columns.now) text.now result) }
 {
     let rule = rule_for(format);
-    let mut rows = no_rows(alloc, columns)?;
+    let mut rows = no_rows(alloc, columns, text)?;
     let mut scratch = Bytes::new(alloc);
     let mut number = 0;
     let mut left = text;
@@ -62,8 +64,16 @@ pub fn decode_rows<C: Columns>(
     Ok(rows.finish())
 }
 
-/// No rows of the columns' types.
-fn no_rows<C: Columns>(alloc: Global, columns: &C) -> Result<RowsBuilder, DecodeFault>
+/// About how many rows a text has: as many as lines of the size of its first.
+fn likely_rows(text: &[u8]) -> usize {
+    match memchr(LINE_FEED, text) {
+        Some(size) => (text.len() / (size + 1) + 1).min(MOST_ROWS),
+        None => 1,
+    }
+}
+
+/// No rows of the columns' types, with room for those that a text is likely to have.
+fn no_rows<C: Columns>(alloc: Global, columns: &C, text: &[u8]) -> Result<RowsBuilder, DecodeFault>
     requires { AllFit (C.columns columns.now) (C.types columns.now) }
     ensures ok { IfOk result (λ rows. (rows.types ≡ C.types columns.now) × (rows.rows ≡ []) × (rows.open_row ≡ [])) }
     ensures memory { OnErr result (result ≡ Err DecodeFault.NoMemory) }
@@ -75,7 +85,7 @@ fn no_rows<C: Columns>(alloc: Global, columns: &C) -> Result<RowsBuilder, Decode
             Err(_) => return Err(DecodeFault::NoMemory),
         }
     }
-    match RowsBuilder::new(alloc, types.as_slice()) {
+    match RowsBuilder::with_room(alloc, types.as_slice(), likely_rows(text), text.len()) {
         Ok(rows) => Ok(rows),
         Err(_) => Err(DecodeFault::NoMemory),
     }

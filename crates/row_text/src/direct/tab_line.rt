@@ -1,10 +1,9 @@
 // Rows of TabSeparated text, field by field where they lie.
-ghost use Rattle.std.specs.Prelude.{◌≡◌, ◌<◌, ◌≤◌, [], true, length, take, IfSome};
+ghost use Rattle.std.specs.Prelude.{◌≡◌, ◌<◌, [], true, length, IfSome};
 ghost use Rattle.dict_value.specs.declared.value.Format.TheVariants.{Tab};
 ghost use Rattle.dict_value.specs.declared.value.TheConstants.{MOST_ROWS};
-ghost use Rattle.std.specs.List.{AllByRecursion};
 ghost use Rattle.row_text.specs.Fitting.{AllFit};
-ghost use Rattle.row_text.specs.steps.DirectSteps.{AddsField, BeginsWithRow, EndsPiece, LacksReturn, IsQuiet, Unescapes};
+ghost use Rattle.row_text.specs.steps.DirectSteps.{AddsField, BeginsWithRow, EndsPiece, LacksReturn, Unescapes};
 
 use super::{push_null, push_piece};
 use crate::columns::Columns;
@@ -14,9 +13,6 @@ use dict_value::letters::{BACKSLASH, CARRIAGE_RETURN, LINE_FEED, TAB};
 use memchr::memchr3;
 use packed_rows::RowsBuilder;
 use std::alloc::Global;
-
-/// How many bytes are looked at one by one.
-const NEAR: usize = 32;
 
 /// Adds the values of the first line of a text to the open row.
 #[inline]
@@ -140,33 +136,9 @@ fn lacks_return(piece: &[u8]) -> bool
     piece.is_empty() || piece[piece.len() - 1] != CARRIAGE_RETURN
 }
 
-/// Where the first tab, line feed or backslash of a text stands, and which of them it is. Most stand near, where a
-/// look at byte after byte is quicker than a search.
+/// Where the first tab, line feed or backslash of a text stands, and which of them it is.
 #[inline(always)]
 fn piece_end(text: &[u8]) -> Option<(usize, u8)>
-    ensures { IfSome result (λ end. EndsPiece text.now end.0 end.1) }
-{
-    let near = &text[..text.len().min(NEAR)];
-    for (place, b) in near.iter().enumerate() {
-        if matches!(*b, TAB | LINE_FEED | BACKSLASH) {
-            return Some((place, *b));
-        }
-    }
-    far_end(text, near.len())
-}
-
-/// The same, where none stands before a place.
-fn far_end(text: &[u8], from: usize) -> Option<(usize, u8)>
-    requires within { from ≤ length text.now }
-    requires quiet { AllByRecursion IsQuiet (take from text.now) }
-    ensures { IfSome result (λ end. EndsPiece text.now end.0 end.1) }
-{
-    let (size, end) = searched_end(&text[from..])?;
-    Some((from + size, end))
-}
-
-/// The same by a search, which is quick in long texts.
-fn searched_end(text: &[u8]) -> Option<(usize, u8)>
     ensures { IfSome result (λ end. EndsPiece text.now end.0 end.1) }
 {
     let size = memchr3(TAB, LINE_FEED, BACKSLASH, text)?;
