@@ -94,6 +94,17 @@ fn room_for(alloc: Global, count: usize) -> Bytes
     }
 }
 
+/// The same bytes, without their spare room where that is more than they are.
+fn fitted(bytes: Bytes) -> Bytes
+    ensures { result ≡ bytes }
+{
+    let mut items = bytes.into_vec();
+    if items.capacity() / 2 > items.len() {
+        items.shrink_to_fit();
+    }
+    Bytes::from_vec(items)
+}
+
 /// A column without a cell, with room for so many.
 fn empty_column(alloc: Global, ty: AttrType, rows: usize) -> Column
     ensures { (result.ty ≡ ty) × (result.cells ≡ []) × (result.nulls ≡ []) }
@@ -261,7 +272,7 @@ impl RowsBuilder {
         } = self;
         Rows {
             columns,
-            text,
+            text: fitted(text),
             count: rows,
         }
     }
