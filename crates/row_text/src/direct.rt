@@ -81,7 +81,8 @@ fn push_piece<C: Columns>(
     requires few { length rows.old.rows < MOST_ROWS }
     ensures types { rows.new.types ≡ rows.old.types }
     ensures rows { rows.new.rows ≡ rows.old.rows }
-    ensures cell { OnSome result (AddsValue (C.columns columns.now) (field.Text piece.now) rows.old.open_row rows.new.open_row) }
+    ensures cell { OnSome result (AddsValue (C.columns columns.now) (field.Text piece.now)
+        rows.old.open_row rows.new.open_row) }
 {
     let cell = columns.read_cell(alloc, place, piece)?;
     rows.push_cell(&cell).ok()

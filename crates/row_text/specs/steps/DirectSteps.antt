@@ -26,7 +26,8 @@ pub record AreValues (columns : List Reader) (fields : List Field) (row : List V
   pub typed : readings (take (length row) columns) fields ≡ map Ok row
 
 -- the text begins with a line, of so many bytes with its line feed, that is this row
-pub record BeginsWithRow (format : Format) (columns : List Reader) (text : List ℕ) (size : ℕ) (row : List Value) : Type 0 where
+pub record BeginsWithRow
+    (format : Format) (columns : List Reader) (text : List ℕ) (size : ℕ) (row : List Value) : Type 0 where
   pub line : List ℕ
   pub within : size ≤ length text
   pub whole : IsWhole (rule_of format) line
@@ -35,7 +36,8 @@ pub record BeginsWithRow (format : Format) (columns : List Reader) (text : List 
   pub typed : IsTypedRow format columns line row
 
 -- the row that the text begins with comes to the rows
-pub record TakesRow (format : Format) (columns : List Reader) (text : List ℕ) (size : ℕ) (old new : Building) : Type 0 where
+pub record TakesRow
+    (format : Format) (columns : List Reader) (text : List ℕ) (size : ℕ) (old new : Building) : Type 0 where
   pub row : List Value
   pub room : length old.rows < MOST_ROWS
   pub has : BeginsWithRow format columns text size row
