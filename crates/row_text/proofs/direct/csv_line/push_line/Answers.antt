@@ -1,5 +1,4 @@
-use Rattle.std.proofs.Common.{◌≡◌, ◌<◌, ◌+◌, ◌∙◌, [], List, length, take, sym, ap, subst, refl, arith}
-use Rattle.dict_value.specs.declared.letters.TheConstants.{COMMA, LINE_FEED}
+use Rattle.std.proofs.Common.{◌≡◌, ◌<◌, ◌+◌, ◌∙◌, List, length, take, sym, ap, subst, refl, arith}
 use Rattle.dict_value.specs.declared.value.Field.TheVariants as field
 use Rattle.dict_value.specs.declared.value.Value.{Value}
 use Rattle.row_text.specs.steps.DirectSteps.{EndsText, HasTextsTaken}

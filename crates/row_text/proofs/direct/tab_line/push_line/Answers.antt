@@ -1,5 +1,4 @@
-use Rattle.std.proofs.Common.{◌≡◌, ◌<◌, ◌+◌, ◌∙◌, [], List, length, sym, ap, subst, refl, arith}
-use Rattle.dict_value.specs.declared.letters.TheConstants.{LINE_FEED, TAB}
+use Rattle.std.proofs.Common.{◌≡◌, ◌<◌, ◌+◌, ◌∙◌, List, length, sym, ap, subst, refl, arith}
 use Rattle.dict_value.specs.declared.value.Value.{Value}
 use Rattle.row_text.specs.TabRow.{field_of}
 use Rattle.row_text.specs.steps.DirectSteps.{AddsField, HasFieldsTaken}
