@@ -7,13 +7,36 @@ use std::time::Instant;
 #[derive(Clone, Copy)]
 enum Kind {
     Number,
+    MaybeNumber,
     Text,
+    Day,
+    Decimal,
+    Address,
+    Id,
 }
 
 enum Value {
+    Null,
     Number(u64),
     Text(Vec<u8>),
+    Day(u16),
+    Decimal(i128),
+    Address(u32),
+    Id(u128),
 }
+
+const PAIR: [Kind; 2] = [Kind::Number, Kind::Text];
+
+const WIDE: [Kind; 8] = [
+    Kind::Number,
+    Kind::Day,
+    Kind::Decimal,
+    Kind::Address,
+    Kind::Id,
+    Kind::MaybeNumber,
+    Kind::Text,
+    Kind::Text,
+];
 
 struct Figures {
     rows: usize,
@@ -37,30 +60,115 @@ fn split(separator: u8, text: &[u8]) -> Vec<Vec<Vec<u8>>> {
 }
 
 fn value(kind: Kind, field: &[u8]) -> Option<Value> {
+    if let Kind::Text = kind {
+        return Some(Value::Text(field.to_vec()));
+    }
+    let text = std::str::from_utf8(field).ok()?;
     match kind {
-        Kind::Number => std::str::from_utf8(field).ok()?.parse().ok().map(Value::Number),
-        Kind::Text => Some(Value::Text(field.to_vec())),
+        Kind::MaybeNumber if text == "\\N" => Some(Value::Null),
+        Kind::Number | Kind::MaybeNumber => text.parse().ok().map(Value::Number),
+        Kind::Day => day(text).map(Value::Day),
+        Kind::Decimal => decimal(text).map(Value::Decimal),
+        Kind::Address => text.parse::<std::net::Ipv4Addr>().ok().map(|v4| Value::Address(u32::from(v4))),
+        Kind::Id | Kind::Text => id(field).map(Value::Id),
     }
 }
 
-fn row(kinds: &[Kind], line: &[u8]) -> Option<Vec<Value>> {
+/// The number of a day from 1970-01-01.
+fn day(text: &str) -> Option<u16> {
+    let mut parts = text.split('-');
+    let year: i32 = parts.next()?.parse().ok()?;
+    let month: i32 = parts.next()?.parse().ok()?;
+    let day: i32 = parts.next()?.parse().ok()?;
+    if parts.next().is_some() || !(1..=12).contains(&month) || !(1..=31).contains(&day) {
+        return None;
+    }
+    let year = if month <= 2 { year - 1 } else { year };
+    let of_era = year % 400;
+    let of_year = (153 * ((month + 9) % 12) + 2) / 5 + day - 1;
+    let days = year / 400 * 146097 + of_era * 365 + of_era / 4 - of_era / 100 + of_year - 719468;
+    u16::try_from(days).ok()
+}
+
+/// A number with up to four places, scaled by 10,000.
+fn decimal(text: &str) -> Option<i128> {
+    let (whole, places) = text.split_once('.').unwrap_or((text, ""));
+    let mut scaled: i128 = whole.parse().ok()?;
+    for place in 0..4 {
+        let digit = match places.as_bytes().get(place) {
+            Some(b) if b.is_ascii_digit() => i128::from(b - b'0'),
+            Some(_) => return None,
+            None => 0,
+        };
+        scaled = scaled * 10 + if text.starts_with('-') { -digit } else { digit };
+    }
+    Some(scaled)
+}
+
+/// 32 hexadecimal digits with four hyphens.
+fn id(field: &[u8]) -> Option<u128> {
+    if field.len() != 36 {
+        return None;
+    }
+    let mut number = 0;
+    for (place, b) in field.iter().enumerate() {
+        if matches!(place, 8 | 13 | 18 | 23) {
+            if *b != b'-' {
+                return None;
+            }
+        } else {
+            number = number * 16 + u128::from((*b as char).to_digit(16)?);
+        }
+    }
+    Some(number)
+}
+
+fn row(kinds: &[Kind], separator: u8, line: &[u8]) -> Option<Vec<Value>> {
     let mut row = Vec::with_capacity(kinds.len());
-    let mut fields = line.split(|b| *b == b'\t');
+    let mut fields = line.split(|b| *b == separator);
     for kind in kinds {
         row.push(value(*kind, fields.next()?)?);
     }
     if fields.next().is_none() { Some(row) } else { None }
 }
 
-fn decode(kinds: &[Kind], text: &[u8]) -> Vec<Vec<Value>> {
+fn decode(kinds: &[Kind], separator: u8, text: &[u8]) -> Vec<Vec<Value>> {
     let mut table = Vec::new();
     let mut left = text;
     while let Some(end) = left.iter().position(|b| *b == b'\n') {
-        let Some(row) = row(kinds, &left[..end]) else { break };
+        let Some(row) = row(kinds, separator, &left[..end]) else { break };
         table.push(row);
         left = &left[end + 1..];
     }
     table
+}
+
+/// How many bytes of text a value has.
+fn bytes(value: &Value) -> usize {
+    match value {
+        Value::Text(text) => text.len(),
+        Value::Null => 0,
+        Value::Number(number) => {
+            std::hint::black_box(*number);
+            0
+        }
+        Value::Day(day) => {
+            std::hint::black_box(*day);
+            0
+        }
+        Value::Decimal(scaled) => {
+            std::hint::black_box(*scaled);
+            0
+        }
+        Value::Address(address) => {
+            std::hint::black_box(*address);
+            0
+        }
+        Value::Id(id) => {
+            std::hint::black_box(*id);
+            0
+        }
+    }
 }
 
 /// The same rows as pairs: no list for each of them.
@@ -90,15 +198,13 @@ fn read(work: &str, text: &[u8]) -> Figures {
             }).sum(),
         };
     }
-    if work == "decode" {
-        let table = decode(&[Kind::Number, Kind::Text], text);
-        let bytes = |value: &Value| match value {
-            Value::Number(number) => {
-                std::hint::black_box(*number);
-                0
-            }
-            Value::Text(text) => text.len(),
-        };
+    let decoded = match work {
+        "decode" => Some(decode(&PAIR, b'\t', text)),
+        "decode_csv" => Some(decode(&PAIR, b',', text)),
+        "wide" => Some(decode(&WIDE, b'\t', text)),
+        _ => None,
+    };
+    if let Some(table) = decoded {
         return Figures {
             rows: table.len(),
             fields: table.iter().map(|row| row.len()).sum(),

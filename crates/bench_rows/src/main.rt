@@ -1,13 +1,14 @@
 //! Times the reading of rows. The text on standard input is cut into rows, each row is read, and
-//! all of them are kept. The words are what to read, `tab` or `csv` for fields and `decode` for
-//! TabSeparated rows of a number and a text, and a number of rounds: the program prints what it
-//! read and, for more than no rounds, the shortest round in microseconds.
+//! all of them are kept. The words are what to read and a number of rounds: `tab` or `csv` for
+//! fields, `decode` or `decode_csv` for rows of a number and a text, and `wide` for TabSeparated
+//! rows of eight columns. The program prints what it read, for decoded rows how many bytes they
+//! keep, and, for more than no rounds, the shortest round in microseconds.
 #![tactic(auto)]
 
 mod table;
 mod typed;
 
-use dict_value::{Fields, ListOf};
+use dict_value::{Fields, Format, ListOf};
 use std::alloc::Global;
 use std::io::Read;
 use std::time::Instant;
@@ -18,7 +19,8 @@ use std::{env, io};
 enum Work {
     Tab,
     Csv,
-    Decode,
+    Decode(Format),
+    Wide,
 }
 
 /// What was read, in numbers.
@@ -27,12 +29,15 @@ pub struct Figures {
     rows: usize,
     fields: usize,
     bytes: usize,
+    kept: u64,
 }
 
 fn work_of(word: &str) -> Work {
     match word {
         "csv" => Work::Csv,
-        "decode" => Work::Decode,
+        "decode" => Work::Decode(Format::Tab),
+        "decode_csv" => Work::Decode(Format::Csv),
+        "wide" => Work::Wide,
         _ => Work::Tab,
     }
 }
@@ -45,9 +50,11 @@ fn read(alloc: Global, work: Work, text: &[u8]) -> Figures {
                 rows: table.len(),
                 fields: table::fields(&table),
                 bytes: table::bytes(&table),
+                kept: 0,
             }
         }
-        Work::Decode => typed::read(alloc, text),
+        Work::Decode(format) => typed::read(alloc, &typed::PAIR, format, text),
+        Work::Wide => typed::read(alloc, &typed::WIDE, Format::Tab, text),
     }
 }
 
@@ -69,6 +76,9 @@ fn main(rt: HostRuntime) -> io::Result<()> {
         "rows {} fields {} bytes {}",
         found.rows, found.fields, found.bytes
     )?;
+    if found.kept > 0 {
+        println!(rt; "kept {}", found.kept)?;
+    }
     let mut best = u128::MAX;
     for _ in 0..rounds {
         let start = Instant::now(&rt)?;

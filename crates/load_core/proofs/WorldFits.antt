@@ -1,7 +1,6 @@
 -- What the judge's columns read fits their types.
-use Rattle.std.proofs.Common.{◌≡◌, ◌∷◌, [], Ok, List, ℕ, false, subst}
+use Rattle.std.proofs.Common.{◌≡◌, [], Ok, false, subst}
 use Rattle.dict_value.proofs.ReadTypes.{read-typed}
-use Rattle.dict_value.specs.declared.value.ColType.{ColType}
 use Rattle.dict_value.specs.declared.value.ColType.TheVariants.{Str, UInt64}
 use Rattle.dict_value.specs.declared.value.Field.{Field}
 use Rattle.dict_value.specs.declared.value.Field.TheVariants as field

@@ -31,8 +31,12 @@ impl Columns for WorldColumns {
         }
     }
 
-    fn read_cell<'a>(&self, _alloc: Global, place: usize, text: &'a [u8]) -> Option<Cell<'a>> {
+    fn read_cell<'a>(&'a self, _alloc: Global, place: usize, text: &'a [u8]) -> Option<Cell<'a>> {
         if place > 0 { Some(Cell::S(text)) } else { None }
+    }
+
+    fn null_cell(&self, place: usize) -> Option<Cell<'_>> {
+        if place > 0 { Some(Cell::S(b"")) } else { None }
     }
 
     fn read(&self, alloc: Global, place: usize, field: Field) -> Result<Value, BadValue> {

@@ -41,7 +41,7 @@ fn is_text(t: ColType) -> bool
 }
 
 /// The number that is kept of a signed value, in two's complement.
-#[inline]
+#[inline(always)]
 fn signed_number(z: i64, t: ColType) -> u64
     requires { FitsSigned (signed_width t) z }
     ensures { result ≡ cast_unsigned (signed_width t) z }
@@ -55,7 +55,7 @@ fn signed_number(z: i64, t: ColType) -> u64
 }
 
 /// The number that is kept of a cell, given where the text ends behind it.
-#[inline]
+#[inline(always)]
 fn number_of(cell: &Cell<'_>, ty: AttrType, end: u64) -> u128
     requires { FitsColumn ty (meaning cell.now) }
     ensures { result ≡ number_of ty.base end (meaning cell.now) }
@@ -74,26 +74,55 @@ fn number_of(cell: &Cell<'_>, ty: AttrType, end: u64) -> u128
     }
 }
 
-#[inline]
+#[inline(always)]
 fn is_null(cell: &Cell<'_>) -> bool
     ensures { result ≡ is_null (meaning cell.now) }
 {
     matches!(*cell, Cell::Null)
 }
 
-/// A column without a cell.
-fn empty_column(alloc: Global, ty: AttrType) -> Column
+/// No bytes, with room for so many where there is memory for them.
+fn room_for(alloc: Global, count: usize) -> Bytes
+    ensures { result ≡ [] }
+{
+    if count == 0 {
+        return Bytes::new(alloc);
+    }
+    match Bytes::with_room(alloc, count) {
+        Ok(bytes) => bytes,
+        Err(_) => Bytes::new(alloc),
+    }
+}
+
+/// The same bytes, without their spare room where that is more than they are.
+fn fitted(bytes: Bytes) -> Bytes
+    ensures { result ≡ bytes }
+{
+    let mut items = bytes.into_vec();
+    if items.capacity() / 2 > items.len() {
+        items.shrink_to_fit();
+    }
+    Bytes::from_vec(items)
+}
+
+/// A column without a cell, with room for so many.
+fn empty_column(alloc: Global, ty: AttrType, rows: usize) -> Column
     ensures { (result.ty ≡ ty) × (result.cells ≡ []) × (result.nulls ≡ []) }
 {
     Column {
         ty,
-        cells: Bytes::new(alloc),
+        cells: room_for(alloc, rows.saturating_mul(bytes_in(width_of(ty.base)))),
         nulls: Bits::new(alloc),
     }
 }
 
+/// Whether a type is that of a text.
+fn has_text(types: &[AttrType]) -> bool {
+    types.iter().any(|ty| is_text(ty.base))
+}
+
 /// Appends the text of a String.
-#[inline]
+#[inline(always)]
 fn push_text(text: &mut Bytes, cell: &Cell<'_>) -> Result<(), NoMemory>
     ensures ok { OnOk result (text.new ≡ text.old ++ text_of_value (meaning cell.now)) }
     ensures err { OnErr result (text.new ≡ text.old) }
@@ -105,7 +134,7 @@ fn push_text(text: &mut Bytes, cell: &Cell<'_>) -> Result<(), NoMemory>
 }
 
 /// Adds a cell to a column.
-#[inline]
+#[inline(always)]
 fn grow(column: &mut Column, n: u128, null: bool) -> Result<(), NoMemory>
     requires fits { n < limit_of (width_of column.old.ty.base) }
     requires few { column.old.ty.nullable ≡ true → length column.old.nulls < 4294967295 }
@@ -153,16 +182,28 @@ impl RowsBuilder {
     pub fn new(alloc: Global, types: &[AttrType]) -> Result<RowsBuilder, NoMemory>
         ensures { IfOk result (λ b. (b.types ≡ types.now) × (b.rows ≡ []) × (b.open_row ≡ [])) }
     {
+        RowsBuilder::with_room(alloc, types, 0, 0)
+    }
+
+    /// The same with room for so many rows, whose texts have so many bytes, where there is memory for them.
+    pub fn with_room(
+        alloc: Global,
+        types: &[AttrType],
+        rows: usize,
+        text: usize,
+    ) -> Result<RowsBuilder, NoMemory>
+        ensures { IfOk result (λ b. (b.types ≡ types.now) × (b.rows ≡ []) × (b.open_row ≡ [])) }
+    {
         let mut columns = Vec::new(alloc);
         for ty in types {
-            match columns.push(empty_column(alloc, *ty)) {
+            match columns.push(empty_column(alloc, *ty, rows)) {
                 Ok(()) => {}
                 Err(_) => return Err(NoMemory),
             }
         }
         Ok(RowsBuilder {
             columns,
-            text: Bytes::new(alloc),
+            text: room_for(alloc, if has_text(types) { text } else { 0 }),
             rows: 0,
             place: 0,
         })
@@ -176,7 +217,7 @@ impl RowsBuilder {
     }
 
     /// Adds a value to the open row; after `NoMemory` all is as it was.
-    #[inline]
+    #[inline(always)]
     pub fn push_cell(&mut self, cell: &Cell<'_>) -> Result<(), NoMemory>
         requires room { length self.old.open_row < length self.old.types }
         requires few { length self.old.rows < 4294967295 }
@@ -231,7 +272,7 @@ impl RowsBuilder {
         } = self;
         Rows {
             columns,
-            text,
+            text: fitted(text),
             count: rows,
         }
     }

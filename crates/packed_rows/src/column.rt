@@ -26,7 +26,7 @@ pub struct Column {
 }
 
 /// How wide the cells of a type are.
-#[inline]
+#[inline(always)]
 pub(crate) fn width_of(t: ColType) -> CellWidth
     ensures { result ≡ width_of t }
 {
@@ -56,7 +56,7 @@ pub(crate) fn bytes_in(width: CellWidth) -> usize
 }
 
 /// Appends the bytes of a number; after `NoMemory` they are as they were.
-#[inline]
+#[inline(always)]
 #[tactic(auto, unfolding(crate::specs::Widths::kept, crate::specs::Widths::limit_of))]
 pub(crate) fn push_number(cells: &mut Bytes, width: CellWidth, n: u128) -> Result<(), NoMemory>
     requires { n < limit_of width }

@@ -28,7 +28,7 @@ unfolding next_record
 in-field-comma texts text tail = refl
 
 -- a field and the comma behind it
-field-comma : (texts : List (List ℕ)) (run tail : List ℕ) → IsPlainText run
+pub field-comma : (texts : List (List ℕ)) (run tail : List ℕ) → IsPlainText run
     → next_record default_config st.StartField texts [] (run ++ COMMA ∷ tail) ≡ next_record default_config st.StartField (texts ++ run ∷ []) [] tail
 unfolding next_record
 field-comma texts [] tail p = refl
@@ -36,7 +36,7 @@ field-comma texts (b ∷ run) tail p =
     start-same texts [] b (run ++ COMMA ∷ tail) (ne_eqb b DOUBLE_QUOTE p.0.1) ∙ plain-run texts [] (b ∷ run) (COMMA ∷ tail) p ∙ in-field-comma texts (b ∷ run) tail
 
 -- the last field
-field-last : (texts : List (List ℕ)) (run : List ℕ) → IsPlainText run → next_record default_config st.StartField texts [] run ≡ Some (texts ++ run ∷ [], st.StartRecord, [])
+pub field-last : (texts : List (List ℕ)) (run : List ℕ) → IsPlainText run → next_record default_config st.StartField texts [] run ≡ Some (texts ++ run ∷ [], st.StartRecord, [])
 unfolding next_record
 field-last texts [] p = refl
 field-last texts (b ∷ run) p =
@@ -71,7 +71,7 @@ split-more line at run fields texts s lt here plain =
           ∙ ap (λ (t : List ℕ). next_record default_config st.StartField texts [] t) (sym parts) ∙ s.later;
     }
 
-no-mark : (line : List ℕ) → get_or line 0 0 ≢ 0xEF → strip_bom line ≡ line
+pub no-mark : (line : List ℕ) → get_or line 0 0 ≢ 0xEF → strip_bom line ≡ line
 unfolding strip_bom
 no-mark [] n = refl
 no-mark (a ∷ []) n = refl

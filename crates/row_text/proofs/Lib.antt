@@ -16,4 +16,6 @@ pub mod OneDecoding
 pub mod CutGrowth
 pub mod EachText
 mod Fitted
-mod PlainLines
+mod DirectRows
+mod DirectTab
+mod DirectCsv

@@ -3,4 +3,4 @@ pub mod TabSteps
 pub mod CsvSteps
 pub mod CutSteps
 pub mod DecodeSteps
-pub mod PlainSteps
+pub mod DirectSteps

@@ -19,7 +19,7 @@ use dict_value::{Bytes, Field, Fields, LineFault, ListOf, NoMemory};
 use std::alloc::Global;
 
 /// The first byte of a byte order mark.
-const MARK: u8 = 0xEF;
+pub(crate) const MARK: u8 = 0xEF;
 
 /// The fields of one row, which comes without its line feed.
 pub fn read_csv_row(alloc: Global, line: &[u8]) -> Result<Fields, LineFault>
@@ -67,7 +67,8 @@ fn split_plain(alloc: Global, line: &[u8]) -> Result<Option<Fields>, NoMemory>
 }
 
 /// How many bytes stand before the first comma, quote or line end.
-fn plain_len(left: &[u8]) -> usize
+#[inline]
+pub(crate) fn plain_len(left: &[u8]) -> usize
     ensures within { result ≤ length left.now }
     ensures plain { IsPlainText (take result left.now) }
 {

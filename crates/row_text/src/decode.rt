@@ -6,19 +6,19 @@ ghost use Rattle.dict_value.specs.declared.value.Format.{Format};
 ghost use Rattle.dict_value.specs.Memory.{UnlessNoMemory};
 ghost use Rattle.row_text.specs.Fitting.{AllFit};
 ghost use Rattle.row_text.specs.Decoding.{Decodes, LineGives, is_row_line, rule_of};
-ghost use Rattle.row_text.specs.steps.PlainSteps.{AddsValue, EndsPiece, HasPlainBefore, HasPlainRow, LacksReturn, TakesPlain};
 ghost use Rattle.row_text.specs.steps.DecodeSteps.{LineBrings, LineDecodes, TakeAll, column_fault, fault_at, row_fault};
 
+use crate::columns::Columns;
 use crate::csv_row::{is_blank_line, read_csv_row};
 use crate::cutter::{CutRule, first_line};
+use crate::direct::take_row;
 use crate::tab_row::read_fields;
-use dict_value::letters::{BACKSLASH, CARRIAGE_RETURN, LINE_FEED, TAB};
+use dict_value::letters::LINE_FEED;
 use dict_value::{
-    AttrType, BadRow, BadValue, Field, Fields, Format, LineFault, ListOf, MOST_ROWS, NoMemory, Row,
-    Value, Why,
+    BadRow, BadValue, Bytes, Fields, Format, LineFault, ListOf, MOST_ROWS, NoMemory, Row, Why,
 };
-use memchr::memchr3;
-use packed_rows::{Cell, Rows, RowsBuilder, cell_of};
+use memchr::memchr;
+use packed_rows::{Rows, RowsBuilder, cell_of};
 use std::alloc::Global;
 
 /// Why a text has no rows.
@@ -29,42 +29,6 @@ pub enum DecodeFault {
     /// A row stands behind as many as a version may have, and none of those is bad.
     TooMany,
     NoMemory,
-}
-
-/// The columns of a table.
-pub trait Columns {
-    ghost use Rattle.std.specs.Prelude.{◌≡◌, ◌<◌, List, Some, Ok, length, slice_get, IfSome};
-    ghost use Rattle.dict_value.specs.declared.value.AttrType.{AttrType};
-    ghost use Rattle.dict_value.specs.declared.value.Field.TheVariants as field;
-    ghost use Rattle.packed_rows.specs.Cells.{meaning};
-    ghost use Rattle.row_text.specs.Decoding.{Reader, Reads};
-
-    /// What each column makes of a field.
-    ghost columns: { Self → List Reader };
-
-    /// The types of the columns, each of which has the values that its column reads.
-    ghost types: { Self → List AttrType };
-
-    /// How many columns there are.
-    fn count(&self) -> usize
-        ensures { result ≡ length (columns self.now) };
-
-    /// The type of the column at a place.
-    fn type_at(&self, place: usize) -> AttrType
-        requires { place < length (columns self.now) }
-        ensures { slice_get (types self.now) place ≡ Some result };
-
-    /// The value that the column at a place makes of a text, where it lies and without memory. None leaves
-    /// the text to `read`.
-    fn read_cell<'a>(&self, alloc: Global, place: usize, text: &'a [u8]) -> Option<Cell<'a>>
-        requires { place < length (columns self.now) }
-        ensures { IfSome result (λ cell. (column : Reader) → slice_get (columns self.now) place ≡ Some column
-            → column (field.Text text.now) ≡ Ok (meaning cell)) };
-
-    /// What the column at a place makes of a field.
-    fn read(&self, alloc: Global, place: usize, field: Field) -> Result<Value, BadValue>
-        requires { place < length (columns self.now) }
-        ensures { (column : Reader) → slice_get (columns self.now) place ≡ Some column → Reads column field result };
 }
 
 /// The typed rows of a whole text, or its first bad row, or that it has too many.
@@ -81,12 +45,13 @@ pub fn decode_rows<C: Columns>(
         (Decodes format (C.columns columns.now) text.now result) }
 {
     let rule = rule_for(format);
-    let mut rows = no_rows(alloc, columns)?;
+    let mut rows = no_rows(alloc, columns, text)?;
+    let mut scratch = Bytes::new(alloc);
     let mut number = 0;
     let mut left = text;
     while !left.is_empty() {
         number += 1;
-        let rest = match take_plain(alloc, format, columns, left, &mut rows) {
+        let rest = match take_row(alloc, format, columns, left, &mut scratch, &mut rows) {
             Some(size) => &left[size..],
             None => {
                 let (line, rest) = first_line(rule, left);
@@ -99,8 +64,16 @@ pub fn decode_rows<C: Columns>(
     Ok(rows.finish())
 }
 
-/// No rows of the columns' types.
-fn no_rows<C: Columns>(alloc: Global, columns: &C) -> Result<RowsBuilder, DecodeFault>
+/// About how many rows a text has: as many as lines of the size of its first.
+fn likely_rows(text: &[u8]) -> usize {
+    match memchr(LINE_FEED, text) {
+        Some(size) => (text.len() / (size + 1) + 1).min(MOST_ROWS),
+        None => 1,
+    }
+}
+
+/// No rows of the columns' types, with room for those that a text is likely to have.
+fn no_rows<C: Columns>(alloc: Global, columns: &C, text: &[u8]) -> Result<RowsBuilder, DecodeFault>
     requires { AllFit (C.columns columns.now) (C.types columns.now) }
     ensures ok { IfOk result (λ rows. (rows.types ≡ C.types columns.now) × (rows.rows ≡ []) × (rows.open_row ≡ [])) }
     ensures memory { OnErr result (result ≡ Err DecodeFault.NoMemory) }
@@ -112,140 +85,10 @@ fn no_rows<C: Columns>(alloc: Global, columns: &C) -> Result<RowsBuilder, Decode
             Err(_) => return Err(DecodeFault::NoMemory),
         }
     }
-    match RowsBuilder::new(alloc, types.as_slice()) {
+    match RowsBuilder::with_room(alloc, types.as_slice(), likely_rows(text), text.len()) {
         Ok(rows) => Ok(rows),
         Err(_) => Err(DecodeFault::NoMemory),
     }
-}
-
-/// Adds the row of the first line of a text, where the line is plain: TabSeparated, without a backslash, with
-/// its line feed, and each value told without memory. The size is the line's with its line feed. Where it is
-/// none, the rows are as they were.
-fn take_plain<C: Columns>(
-    alloc: Global,
-    format: Format,
-    columns: &C,
-    text: &[u8],
-    rows: &mut RowsBuilder,
-) -> Option<usize>
-    requires fit { AllFit (C.columns columns.now) (C.types columns.now) }
-    requires types { rows.old.types ≡ C.types columns.now }
-    requires none { rows.old.open_row ≡ [] }
-    requires few { length rows.old.rows ≤ MOST_ROWS }
-    ensures none { IfNone result (rows.new ≡ rows.old) }
-    ensures row { IfSome result (λ size. TakesPlain format (C.columns columns.now) text.now size rows.old rows.new) }
-{
-    match format {
-        Format::Tab if rows.row_count() < MOST_ROWS => {}
-        _ => return None,
-    }
-    let taken = push_plain(alloc, columns, text, rows);
-    match taken {
-        Some(_) => rows.end_row(),
-        None => rows.drop_open_row(),
-    }
-    taken
-}
-
-/// Adds the values of the first line of a TabSeparated text to the open row, where the line is plain.
-fn push_plain<C: Columns>(
-    alloc: Global,
-    columns: &C,
-    text: &[u8],
-    rows: &mut RowsBuilder,
-) -> Option<usize>
-    requires fit { AllFit (C.columns columns.now) (C.types columns.now) }
-    requires types { rows.old.types ≡ C.types columns.now }
-    requires none { rows.old.open_row ≡ [] }
-    requires few { length rows.old.rows < MOST_ROWS }
-    ensures types { rows.new.types ≡ rows.old.types }
-    ensures rows { rows.new.rows ≡ rows.old.rows }
-    ensures row { IfSome result (λ size. HasPlainRow (C.columns columns.now) text.now size rows.new.open_row) }
-{
-    let count = columns.count();
-    if count == 0 {
-        return None;
-    }
-    let at = push_fields(alloc, columns, count - 1, text, rows)?;
-    let left = &text[at..];
-    let (size, end) = piece_end(left)?;
-    let piece = &left[..size];
-    if end != LINE_FEED || !lacks_return(piece) {
-        return None;
-    }
-    push_piece(alloc, columns, count - 1, piece, rows)?;
-    Some(at + size + 1)
-}
-
-/// Adds the values of the first fields of a text, each of which a tab ends, and answers where the next field
-/// begins.
-fn push_fields<C: Columns>(
-    alloc: Global,
-    columns: &C,
-    count: usize,
-    text: &[u8],
-    rows: &mut RowsBuilder,
-) -> Option<usize>
-    requires fit { AllFit (C.columns columns.now) (C.types columns.now) }
-    requires types { rows.old.types ≡ C.types columns.now }
-    requires none { rows.old.open_row ≡ [] }
-    requires few { length rows.old.rows < MOST_ROWS }
-    requires within { count < length (C.columns columns.now) }
-    ensures types { rows.new.types ≡ rows.old.types }
-    ensures rows { rows.new.rows ≡ rows.old.rows }
-    ensures fields { IfSome result (λ at. (length rows.new.open_row ≡ count)
-        × HasPlainBefore (C.columns columns.now) text.now at rows.new.open_row) }
-{
-    let mut at = 0;
-    for place in 0..count {
-        let left = &text[at..];
-        let (size, end) = piece_end(left)?;
-        if end != TAB {
-            return None;
-        }
-        push_piece(alloc, columns, place, &left[..size], rows)?;
-        at += size + 1;
-    }
-    Some(at)
-}
-
-/// Whether a text doesn't end in a carriage return.
-#[inline]
-fn lacks_return(piece: &[u8]) -> bool
-    ensures { result ≡ true → LacksReturn piece.now }
-{
-    piece.is_empty() || piece[piece.len() - 1] != CARRIAGE_RETURN
-}
-
-/// Where the first tab, line feed or backslash of a text stands, and which of them it is.
-#[inline]
-fn piece_end(text: &[u8]) -> Option<(usize, u8)>
-    ensures { IfSome result (λ end. EndsPiece text.now end.0 end.1) }
-{
-    let size = memchr3(TAB, LINE_FEED, BACKSLASH, text)?;
-    Some((size, text[size]))
-}
-
-/// Adds the value of a text to the open row.
-#[inline]
-fn push_piece<C: Columns>(
-    alloc: Global,
-    columns: &C,
-    place: usize,
-    piece: &[u8],
-    rows: &mut RowsBuilder,
-) -> Option<()>
-    requires fit { AllFit (C.columns columns.now) (C.types columns.now) }
-    requires types { rows.old.types ≡ C.types columns.now }
-    requires place { place ≡ length rows.old.open_row }
-    requires within { place < length (C.columns columns.now) }
-    requires few { length rows.old.rows < MOST_ROWS }
-    ensures types { rows.new.types ≡ rows.old.types }
-    ensures rows { rows.new.rows ≡ rows.old.rows }
-    ensures cell { OnSome result (AddsValue (C.columns columns.now) piece.now rows.old.open_row rows.new.open_row) }
-{
-    let cell = columns.read_cell(alloc, place, piece)?;
-    rows.push_cell(&cell).ok()
 }
 
 /// Which line feeds end a row.

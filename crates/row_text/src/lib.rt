@@ -9,15 +9,18 @@
 //! stand in place of an answer, and a [`Cutter`] takes none.
 #![tactic(auto)]
 
+pub mod columns;
 pub mod csv_row;
 pub mod cutter;
 pub mod decode;
+mod direct;
 pub mod laws;
 pub mod tab_row;
 
+pub use columns::Columns;
 pub use csv_row::{is_blank_line, read_csv_row, write_csv_row};
 pub use cutter::{Cut, CutRule, CutText, Cutter, rows_of_pieces};
-pub use decode::{Columns, DecodeFault, decode_rows};
+pub use decode::{DecodeFault, decode_rows};
 pub use laws::{one_decoding, one_list_of_lines, one_reading, one_table, written_tables};
 pub use tab_row::{read_fields, write_row, write_text};
 

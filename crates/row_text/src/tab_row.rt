@@ -8,7 +8,7 @@ ghost use Rattle.dict_value.specs.declared.fault.LineFault.{LineFault};
 ghost use Rattle.row_text.specs.Cutting.{IsWhole, ended};
 ghost use Rattle.row_text.specs.Marks.{Mark, Spells, meant_byte};
 ghost use Rattle.dict_value.specs.Memory.{UnlessNoMemory};
-ghost use Rattle.row_text.specs.TabRow.{TabAnswers, IsTabRow, field_of, field_text, row_line};
+ghost use Rattle.row_text.specs.TabRow.{TabAnswers, IsTabRow, field_of, field_text, is_null, row_line};
 ghost use Rattle.row_text.specs.TabRow.{written_byte, written_letter};
 ghost use Rattle.row_text.specs.steps.TabSteps.{EscapeOf, IsPlain, ReadsField};
 ghost use Rattle.row_text.specs.declared.cutter.CutRule.TheVariants as rule;
@@ -103,15 +103,22 @@ fn run_len(rest: &[u8]) -> usize
 fn field_from(raw: &[u8], text: Bytes) -> Field
     ensures { (marks : List Mark) → Spells raw.now marks → text ≡ map meant_byte marks → result ≡ field_of marks }
 {
-    if raw.len() == 2 && raw[0] == BACKSLASH && raw[1] == CAPITAL_N {
+    if is_null_field(raw) {
         Field::Null
     } else {
         Field::Text(text)
     }
 }
 
+/// Whether the field of these bytes is NULL.
+pub(crate) fn is_null_field(raw: &[u8]) -> bool
+    ensures { (marks : List Mark) → Spells raw.now marks → result ≡ is_null marks }
+{
+    raw.len() == 2 && raw[0] == BACKSLASH && raw[1] == CAPITAL_N
+}
+
 /// The byte that an escape stands for, and the escape's size.
-fn escape_of(rest: &[u8]) -> Option<(u8, usize)>
+pub(crate) fn escape_of(rest: &[u8]) -> Option<(u8, usize)>
     requires first { slice_index rest.now 0 ≡ BACKSLASH }
     requires some { 0 < length rest.now }
     ensures size { IfSome result (λ escape. (0 < escape.1) × (escape.1 ≤ length rest.now)) }

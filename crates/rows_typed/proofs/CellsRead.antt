@@ -1,23 +1,19 @@
 -- What a column makes of a text where it lies.
-use Rattle.std.proofs.Common.{◌≡◌, ◌≢◌, ◌<◌, ◌≤◌, ◌-◌, ◌^◌, ◌∷◌, ◌∙◌, ◌==◌, ◌&&◌, [], Bool, true, false, ℕ, zero, suc, List, Option, Some, None, Ok, length, map, drop, if◌then◌else◌, refl, sym, ap, subst, arith}
-use Rattle.std.specs.Prelude.{slice_get, slice_index, nat_lt}
-use Rattle.std.specs.List.{AllByRecursion, AllZip}
+use Rattle.std.proofs.Common.{◌≡◌, ◌<◌, ◌≤◌, ◌^◌, ◌∷◌, ◌∙◌, ◌==◌, [], true, false, ℕ, List, Some, Ok, length, refl, sym, ap, arith}
+use Rattle.std.specs.Prelude.{slice_get}
 use Rattle.std.specs.Option.{option_map}
 use Rattle.std.specs.Char.{digit_value, is_ascii_digit}
 use Rattle.std.specs.Str.{all_ascii_digits}
 use Rattle.std.specs.Str.Parse.{AllDigits, digits_value, without_leading_plus}
 use Rattle.std.proofs.lemmas.Bool.{le-leb, lt-ltb, ne_eqb}
-use Rattle.std.proofs.lemmas.Option.{none-some, slice_get-map, slice_get_read}
+use Rattle.std.proofs.lemmas.Option.{slice_get-map}
 use Rattle.std.proofs.lemmas.Str.Parse.{digit_from_value}
 use Rattle.dict_schema.specs.declared.definition.ShapeColumn.{ShapeColumn}
 use Rattle.dict_value.specs.Digits.{IsDigits}
-use Rattle.dict_value.specs.Numbers.{below, given, is_numeral, number_in, unsigned_in}
-use Rattle.dict_value.specs.Values.{FitsColumn, HasType, as_value, text_reading}
-use Rattle.dict_value.specs.declared.value.AttrType.{AttrType}
-use Rattle.dict_value.specs.declared.value.BadValue.TheVariants.{NotANumber}
+use Rattle.dict_value.specs.Numbers.{below, number_in, unsigned_in}
+use Rattle.dict_value.specs.Values.{FitsColumn, text_reading}
 use Rattle.dict_value.specs.declared.value.ColType.{ColType}
 use Rattle.dict_value.specs.declared.value.ColType.TheVariants as type
-use Rattle.dict_value.specs.declared.value.Field.{Field}
 use Rattle.dict_value.specs.declared.value.Format.{Format}
 use Rattle.dict_value.specs.declared.value.Value.{Value}
 use Rattle.dict_value.specs.declared.value.Value.TheVariants.{Null, U, I, S, Day, Second, Id, V4, V6, Dec}

@@ -1,5 +1,5 @@
 -- Decoding by the columns that a definition wants.
-use Rattle.std.specs.Prelude.{◌-◌, ◌∷◌, ◌==◌, ◌&&◌, ◌||◌, [], if◌then◌else◌, Bool, false, ℕ}
+use Rattle.std.specs.Prelude.{◌-◌, ◌∷◌, ◌==◌, ◌&&◌, [], if◌then◌else◌, Bool, false, ℕ}
 use Rattle.std.specs.Prelude.{List, length, map, take, drop, Result, Ok, Err}
 use Rattle.std.specs.List.{prefix_len, suffix_len}
 use Rattle.dict_schema.specs.declared.definition.Role.{Role}

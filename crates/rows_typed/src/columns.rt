@@ -1,18 +1,18 @@
 // What the columns of a shape make of fields.
-ghost use Rattle.std.specs.Prelude.{◌≡◌, length, reverse, take_while, IfSome, Ok};
+ghost use Rattle.std.specs.Prelude.{◌≡◌, length, reverse, take_while, IfNone, IfSome, Ok};
 ghost use Rattle.dict_value.specs.Values.{text_reading};
 ghost use Rattle.packed_rows.specs.Cells.{meaning};
 ghost use Rattle.rows_typed.specs.Fits.{IsUnsigned, column_type, is_end_role};
 ghost use Rattle.row_text.specs.Decoding.{Reads};
 ghost use Rattle.dict_value.specs.Letters.{is_blank_byte};
-ghost use Rattle.rows_typed.specs.Shapes.{is_null_text, column_by, value_at, without_blanks};
+ghost use Rattle.rows_typed.specs.Shapes.{column_by, is_null_text, null_or_text, seen_text, value_at, without_blanks};
 
 use dict_schema::{Role, ShapeColumn};
 use dict_value::letters::{BACKSLASH, CAPITAL_N, TAB};
 use dict_value::{
     AttrType, BadValue, Bytes, ColType, Field, Format, Value, copy_value, read_digits, read_text,
 };
-use packed_rows::Cell;
+use packed_rows::{Cell, cell_of};
 use row_text::Columns;
 use std::alloc::Global;
 
@@ -42,8 +42,12 @@ impl<'a> Columns for ShapeColumns<'a> {
         column_type(&self.shape[place])
     }
 
-    fn read_cell<'t>(&self, alloc: Global, place: usize, text: &'t [u8]) -> Option<Cell<'t>> {
+    fn read_cell<'t>(&'t self, alloc: Global, place: usize, text: &'t [u8]) -> Option<Cell<'t>> {
         read_cell(alloc, self.format, &self.shape[place], text)
+    }
+
+    fn null_cell(&self, place: usize) -> Option<Cell<'_>> {
+        null_cell(&self.shape[place])
     }
 
     fn read(&self, alloc: Global, place: usize, field: Field) -> Result<Value, BadValue> {
@@ -67,24 +71,71 @@ fn is_end(role: Role) -> bool
     matches!(role, Role::Start | Role::End)
 }
 
-/// What a column makes of a text of TabSeparated, where that is a value; None leaves a text to `read_field`.
-#[inline]
+/// What a column makes of a text, where that is a value without memory; None leaves a text to `read_field`.
+#[inline(always)]
 fn read_cell<'a>(
     alloc: Global,
     format: Format,
-    column: &ShapeColumn,
+    column: &'a ShapeColumn,
     text: &'a [u8],
 ) -> Option<Cell<'a>>
     ensures { IfSome result (λ cell. column_by format column.now (Field.Text text.now) ≡ Ok (meaning cell)) }
 {
     match format {
         Format::Tab => text_cell(alloc, column.ty.base, text),
-        Format::Csv => None,
+        Format::Csv => csv_cell(alloc, column, text),
+    }
+}
+
+/// What a column makes of a text of CSV, where that is a value without memory.
+#[inline(always)]
+fn csv_cell<'a>(alloc: Global, column: &'a ShapeColumn, text: &'a [u8]) -> Option<Cell<'a>>
+    ensures { IfSome result (λ cell. column_by Format.Csv column.now (Field.Text text.now) ≡ Ok (meaning cell)) }
+{
+    match seen_text(column.ty, text) {
+        Some(seen) => text_cell(alloc, column.ty.base, seen),
+        None => null_cell(column),
+    }
+}
+
+/// What a type sees of a text of CSV; nothing where that is NULL.
+#[inline(always)]
+fn seen_text(ty: AttrType, text: &[u8]) -> Option<&[u8]>
+    ensures null { IfNone result (seen_text ty.base ty.nullable text.now ≡ Field.Null) }
+    ensures text { IfSome result (λ seen. seen_text ty.base ty.nullable text.now ≡ Field.Text seen.now) }
+    ensures same { ty.base ≡ ColType.Str → IfSome result (λ seen. seen.now ≡ text.now) }
+{
+    match ty.base {
+        ColType::Str if ty.nullable => unless_null(text),
+        ColType::Str => Some(text),
+        _ => unless_null(without_blanks(text)),
+    }
+}
+
+/// A text that isn't `\N`.
+#[inline(always)]
+fn unless_null(text: &[u8]) -> Option<&[u8]>
+    ensures null { IfNone result (null_or_text text.now ≡ Field.Null) }
+    ensures text { IfSome result (λ seen. null_or_text text.now ≡ Field.Text seen.now) }
+    ensures same { IfSome result (λ seen. seen.now ≡ text.now) }
+{
+    if is_null_text(text) { None } else { Some(text) }
+}
+
+/// What NULL is at a column, where that is a value.
+fn null_cell(column: &ShapeColumn) -> Option<Cell<'_>>
+    ensures { IfSome result (λ cell. value_at column.now Field.Null ≡ Ok (meaning cell)) }
+{
+    match column.role {
+        Role::Start | Role::End => Some(Cell::Null),
+        _ if column.ty.nullable => Some(Cell::Null),
+        Role::Key => None,
+        Role::Attribute => Some(cell_of(&column.default)),
     }
 }
 
 /// The value of a text at a type, where it lies; None where it has none.
-#[inline]
+#[inline(always)]
 fn text_cell<'a>(alloc: Global, base: ColType, text: &'a [u8]) -> Option<Cell<'a>>
     ensures { IfSome result (λ cell. text_reading base text.now ≡ Ok (meaning cell)) }
 {
@@ -99,7 +150,7 @@ fn text_cell<'a>(alloc: Global, base: ColType, text: &'a [u8]) -> Option<Cell<'a
 }
 
 /// The value of digits at an unsigned type whose greatest number is `most`.
-#[inline]
+#[inline(always)]
 fn number_cell<'a>(base: ColType, text: &[u8], most: u64) -> Option<Cell<'a>>
     requires { IsUnsigned base most }
     ensures { IfSome result (λ cell. text_reading base text.now ≡ Ok (meaning cell)) }
@@ -180,25 +231,10 @@ fn text_value(alloc: Global, column: &ShapeColumn, text: Bytes) -> Result<Value,
 fn csv_value(alloc: Global, column: &ShapeColumn, text: Bytes) -> Result<Value, BadValue>
     ensures { Reads (column_by Format.Csv column.now) (Field.Text text) result }
 {
-    match column.ty {
-        AttrType {
-            base: ColType::Str,
-            nullable,
-        } => {
-            if nullable && is_null_text(text.as_slice()) {
-                null_value(alloc, column)
-            } else {
-                Ok(Value::S(text))
-            }
-        }
-        AttrType { base, .. } => {
-            let kept = without_blanks(text.as_slice());
-            if is_null_text(kept) {
-                null_value(alloc, column)
-            } else {
-                read_text(alloc, base, kept)
-            }
-        }
+    match (column.ty.base, seen_text(column.ty, text.as_slice())) {
+        (_, None) => null_value(alloc, column),
+        (ColType::Str, Some(_)) => Ok(Value::S(text)),
+        (base, Some(seen)) => read_text(alloc, base, seen),
     }
 }
 

@@ -1,13 +1,12 @@
 -- A request has one answer.
-use Rattle.std.proofs.Common.{◌≡◌, ◌≢◌, ◌⊎◌, ◌∙◌, ℕ, List, [], ◌∷◌, Option, Some, None, Result, Ok, Err, sym, ap, refl, subst, inl, inr, length}
-use Rattle.std.specs.List.{AllZip}
+use Rattle.std.proofs.Common.{◌≡◌, ◌≢◌, ◌∙◌, ℕ, List, [], ◌∷◌, Option, Some, None, Result, Ok, Err, sym, ap, refl, subst, inl, inr}
 use Rattle.dict_value.specs.Memory.{UnlessNoMemory}
 use Rattle.dict_value.specs.declared.value.Field.{Field}
 use Rattle.dict_value.specs.declared.value.Field.TheVariants.{Text}
 use Rattle.row_text.proofs.OneReading.{one-row}
 use Rattle.row_text.proofs.Tabled.{same-rows}
 use Rattle.row_text.specs.TabRow.{IsTabRow}
-use Rattle.wire_text.proofs.Asking.{AsksWord, tabled, told}
+use Rattle.wire_text.proofs.Asking.{tabled, told}
 use Rattle.wire_text.specs.Requests.{AsksFor, IsRequest}
 use Rattle.wire_text.specs.steps.Asked.{AsksAbove, AsksBehind, AsksBlock, AsksBy, AsksHead, AsksLookup, AsksNamed, ReadsBy, RowRead, RowsRead, head_in}
 use Rattle.wire_text.specs.steps.Fields.{lookup_in, word_in}

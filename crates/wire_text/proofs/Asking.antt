@@ -1,17 +1,15 @@
 -- What the fields of a request's lines ask for: the table, and the reading by the first word, are one.
-use Rattle.std.proofs.Common.{◌≡◌, ◌≢◌, ◌⊎◌, ◌<◌, ◌^◌, ◌++◌, ◌∙◌, ℕ, List, [], ◌∷◌, Bool, true, false, Option, Some, None, Result, Ok, Err}
+use Rattle.std.proofs.Common.{◌≡◌, ◌≢◌, ◌++◌, ◌∙◌, ℕ, List, [], ◌∷◌, Bool, true, false, Option, Some, None}
 use Rattle.std.proofs.Common.{length, codes, sym, ap, refl, subst, inl, inr, arith, bytes_eq, option_and_then, append-nil, if◌then◌else◌}
 use Rattle.std.proofs.lemmas.Slice.Eq.{bytes_eq-Decides}
 use Rattle.std.specs.Bool.{Decides}
 use Rattle.dict_value.specs.declared.value.Field.{Field}
 use Rattle.dict_value.specs.declared.value.Field.TheVariants.{Null, Text}
-use Rattle.wire_text.specs.Numbers.{IsDecimal}
 use Rattle.wire_text.specs.Requests.{AsksFor, IsBlockLine, IsLookup, asked_above, asked_of}
-use Rattle.wire_text.specs.steps.Asked.{AsksAbove, AsksAfter, AsksBehind, AsksBelow, AsksBlock, AsksBy, AsksHead, AsksLookup, AsksNamed, head_in}
-use Rattle.wire_text.specs.steps.Fields.{attribute_in, default_in, lookup_in, lookup_of, lookup_word_in, plain_in, text_first, word_in}
+use Rattle.wire_text.specs.steps.Asked.{AsksBehind, AsksBy, AsksHead, AsksLookup, head_in}
+use Rattle.wire_text.specs.steps.Fields.{attribute_in, default_in, lookup_in, lookup_of, lookup_word_in, plain_in, word_in}
 use Rattle.wire_text.specs.declared.reading.Lookup.{Lookup}
 use Rattle.wire_text.specs.declared.request.Request.{Request}
-use Rattle.wire_text.specs.declared.request.Request.TheVariants as request
 use Rattle.wire_text.specs.declared.request.Verb.{Verb}
 use Rattle.wire_text.specs.declared.request.Verb.TheVariants as verb
 use Rattle.wire_text.specs.declared.words.Word.{Word}

@@ -1,5 +1,5 @@
 -- What readings of rows and of their parts come to.
-use Rattle.std.proofs.Common.{◌≡◌, ◌≢◌, ◌<◌, ◌^◌, ◌+◌, ◌++◌, ◌∙◌, ℕ, List, [], ◌∷◌, Option, Some, None, Result, Ok, Err, length, take, suc, zero}
+use Rattle.std.proofs.Common.{◌≡◌, ◌<◌, ◌^◌, ◌++◌, ◌∙◌, ℕ, List, [], ◌∷◌, Option, Some, None, Result, Ok, Err, length, take, suc, zero}
 use Rattle.std.proofs.Common.{get_or, sym, ap, refl, subst, arith}
 use Rattle.std.specs.List.{AllZip}
 use Rattle.dict_value.specs.Memory.{UnlessNoMemory}

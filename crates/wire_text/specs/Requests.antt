@@ -6,7 +6,6 @@ use Rattle.dict_value.specs.declared.value.Field.TheVariants.{Null, Text}
 use Rattle.dict_value.specs.declared.letters.TheConstants.{TAB}
 use Rattle.row_text.specs.TabRow.{IsTabRow}
 use Rattle.wire_text.specs.Numbers.{IsDecimal}
-use Rattle.wire_text.specs.declared.request.Asked.{Asked}
 use Rattle.wire_text.specs.declared.request.Request.{Request}
 use Rattle.wire_text.specs.declared.request.Request.TheVariants as request
 use Rattle.wire_text.specs.declared.request.Verb.{Verb}

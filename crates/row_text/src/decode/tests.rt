@@ -31,7 +31,11 @@ impl Columns for NullColumn {
         }
     }
 
-    fn read_cell<'a>(&self, _alloc: Global, _place: usize, _text: &'a [u8]) -> Option<Cell<'a>> {
+    fn read_cell<'a>(&'a self, _alloc: Global, _place: usize, _text: &'a [u8]) -> Option<Cell<'a>> {
+        Some(Cell::Null)
+    }
+
+    fn null_cell(&self, _place: usize) -> Option<Cell<'_>> {
         Some(Cell::Null)
     }
 

@@ -205,6 +205,50 @@ fn csv_texts(rt: HostRuntime) -> Result<(), Fail> {
     Ok(())
 }
 
+/// Lines that are read where they lie, beside such as aren't: with quotes, carriage returns, a byte order mark or no
+/// line feed.
+static LINES: [(Format, &[u8], &[u8]); 9] = [
+    (
+        Format::Tab,
+        b"1\ta\\\nb\n2\t\\N\n3\tc",
+        b"|U(1)|a\nb;|U(2)|q;|U(3)|c;",
+    ),
+    (
+        Format::Tab,
+        b"1\t\\\\n\n2\t\\x5cn\n",
+        b"|U(1)|\\n;|U(2)|\\n;",
+    ),
+    (
+        Format::Tab,
+        b"1\ta\\\r\n2\tb\r\n",
+        b"row 2 0 CarriageReturn",
+    ),
+    (
+        Format::Csv,
+        b"1,a\n2,\"b,c\"\n3,d\r\n\n4,e",
+        b"|U(1)|a;|U(2)|b,c;|U(3)|d;|U(4)|e;",
+    ),
+    (Format::Csv, b"\xef\xbb\xbf1,a\n2,b\n", b"|U(1)|a;|U(2)|b;"),
+    (Format::Csv, b"1,a\n2,b,c\n", b"row 2 0 FieldCount(3)"),
+    (Format::Csv, b"1,a\n2\n", b"row 2 0 FieldCount(1)"),
+    (
+        Format::Csv,
+        b"1,a\n 2\t,b \n+3,\n",
+        b"|U(1)|a;|U(2)|b ;|U(3)|;",
+    ),
+    (Format::Csv, b"1,a\rb\n", b"row 1 0 NotOneRecord"),
+];
+
+#[test]
+fn lines_beside_each_other(rt: HostRuntime) -> Result<(), Fail> {
+    for row in &LINES {
+        let (format, text, wanted) = *row;
+        let out = shown(rt.alloc(), &[ID, TEXT], format, text)?;
+        assert_eq!(rt; out.as_slice(), wanted);
+    }
+    Ok(())
+}
+
 /// A value's text of each type, and how the value is shown.
 const TYPES: [(ColType, &[u8], &[u8]); 15] = [
     (ColType::UInt8, b"255", b"U(255)"),

@@ -1,5 +1,5 @@
 use Rattle.rows_typed.specs.Fits.{HasFittingDefaults}
 use Rattle.bench_rows.proofs.typed.shape.Given as goal
 
-abbrev pub invariant-loop-base : goal.invariant-loop-base
-invariant-loop-base l = HasFittingDefaults l.shape
+abbrev pub invariant-loop-kind : goal.invariant-loop-kind
+invariant-loop-kind l = HasFittingDefaults l.shape

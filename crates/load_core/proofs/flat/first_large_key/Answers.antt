@@ -1,5 +1,4 @@
-use Rattle.std.proofs.Common.{◌<◌, ◌∙◌, length, sym, subst, arith}
-use Rattle.packed_rows.specs.Columns.{cell_at}
+use Rattle.std.proofs.Common.{◌∙◌, sym, subst, arith}
 use Rattle.load_core.specs.steps.FlatSteps.{IsSmallCell}
 use Rattle.load_core.proofs.FlatTables.{cell-large, cell-small}
 use Rattle.load_core.proofs.flat.first_large_key.Goals as goal

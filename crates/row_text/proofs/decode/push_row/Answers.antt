@@ -1,4 +1,4 @@
-use Rattle.std.proofs.Common.{List, length, sym, subst, rules, arith}
+use Rattle.std.proofs.Common.{sym, subst, arith}
 use Rattle.dict_value.specs.declared.value.Value.{Value}
 use Rattle.dict_value.specs.Values.{FitsColumn}
 use Rattle.row_text.proofs.Fitted.{row-fits, row-room, row-whole}

@@ -1,4 +1,4 @@
-use Rattle.std.proofs.Common.{ap, Ok}
+use Rattle.std.proofs.Common.{ap}
 use Rattle.dict_value.specs.declared.value.ColType.{ColType}
 use Rattle.dict_value.specs.Values.{text_reading}
 use Rattle.rows_typed.proofs.columns.text_cell.Goals as goal

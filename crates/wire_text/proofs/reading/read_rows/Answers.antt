@@ -1,6 +1,5 @@
-use Rattle.std.proofs.Common.{◌≡◌, ◌++◌, ◌∷◌, [], List, ℕ, Err, length, subst, take, suc, take_all, add-one, arith}
+use Rattle.std.proofs.Common.{List, ℕ, Err, subst, take_all, add-one}
 use Rattle.std.specs.List.{AllZip}
-use Rattle.dict_value.specs.declared.value.Field.{Field}
 use Rattle.row_text.specs.TabRow.{IsTabRow}
 use Rattle.wire_text.specs.steps.Asked.{RowRead}
 use Rattle.wire_text.proofs.RowReadings.{rows_fault, rows_whole, zip_more}

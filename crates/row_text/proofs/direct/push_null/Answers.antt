@@ -5,7 +5,7 @@ use Rattle.dict_value.specs.declared.value.Field.TheVariants as field
 use Rattle.packed_rows.specs.Cells.{meaning}
 use Rattle.row_text.specs.Fitting.{ReadsFitting}
 use Rattle.row_text.proofs.Fitted.{value-fits, zip-length}
-use Rattle.row_text.proofs.decode.push_piece.Goals as goal
+use Rattle.row_text.proofs.direct.push_null.Goals as goal
 
 pub push_cell-requires-clause-room : goal.push_cell-requires-clause-room
 push_cell-requires-clause-room g c =
@@ -13,5 +13,5 @@ push_cell-requires-clause-room g c =
 
 pub push_cell-requires-clause-fits : goal.push_cell-requires-clause-fits
 push_cell-requires-clause-fits g c t there =
-    value-fits (g.C.Columns.columns c.args.columns.now) (g.C.Columns.types c.args.columns.now) c.args.place t (field.Text c.args.piece.now) (meaning c.in_ok-cell.cell) c.requires.fit c.requires.within c.in_ok-cell.ensures
+    value-fits (g.C.Columns.columns c.args.columns.now) (g.C.Columns.types c.args.columns.now) c.args.place t field.Null (meaning c.in_ok-cell.cell) c.requires.fit c.requires.within c.in_ok-cell.ensures
     ((λ j. slice_get (sym c.requires.types j) (c.requires.place j)) ∙ there)

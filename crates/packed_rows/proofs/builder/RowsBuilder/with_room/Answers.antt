@@ -2,7 +2,7 @@ use Rattle.std.proofs.Common.{◌≡◌, ◌<◌, length, rules, ◌∙◌}
 use Rattle.std.specs.Prelude.{get_or}
 use Rattle.std.proofs.lemmas.List.{get_or_default}
 use Rattle.packed_rows.proofs.Packing.{fresh-empty, fresh-filled, fresh-packs, fresh-types}
-use Rattle.packed_rows.proofs.builder.RowsBuilder.new.Goals as goal
+use Rattle.packed_rows.proofs.builder.RowsBuilder.with_room.Goals as goal
 
 pub loop-ty-preserved : goal.loop-ty-preserved
 loop-ty-preserved c =
@@ -18,4 +18,4 @@ loop-ty-preserved c =
     }
 
 pub invariant_of-result : goal.invariant_of-result
-invariant_of-result c = fresh-packs c.loop-ty.columns.items c.new.result c.new.ensures c.loop-ty.invariant.filled c.loop-ty.invariant.empty
+invariant_of-result c = fresh-packs c.loop-ty.columns.items c.room_for.result c.room_for.ensures c.loop-ty.invariant.filled c.loop-ty.invariant.empty
