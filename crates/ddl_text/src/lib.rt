@@ -24,6 +24,7 @@ mod statement;
 mod statements;
 
 use ddl_tokens::Reader;
+pub use ddl_writing::write_definition;
 use dict_schema::Item;
 use dict_value::ListOf;
 use fault::FileFault;

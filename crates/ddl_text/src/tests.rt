@@ -6,3 +6,4 @@ mod files;
 mod settings;
 mod show;
 mod words;
+mod written;

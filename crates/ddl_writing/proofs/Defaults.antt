@@ -1,11 +1,8 @@
 -- Where no fault of a definition stands, the default of each column is a value of its type.
-use Rattle.std.proofs.Common.{◌≡◌, ◌<◌, ◌≤◌, ◌⊎◌, ◌+◌, ◌++◌, ℕ, zero, suc, List, [], ◌∷◌, length, map, Some, inl, inr, arith, subst, sym, refl}
-use Rattle.std.specs.Prelude.{slice_get}
+use Rattle.std.proofs.Common.{◌≡◌, ◌<◌, ◌≤◌, ◌+◌, ◌++◌, ℕ, zero, suc, List, [], ◌∷◌, length, map, inl, inr, arith, subst, refl}
 use Rattle.std.specs.List.{range_with_len}
 use Rattle.std.proofs.lemmas.Bool.{cases_lt}
 use Rattle.std.proofs.lemmas.Option.{slice_get_within}
-use Rattle.dict_value.specs.Values.{FitsColumn}
-use Rattle.dict_schema.specs.declared.definition.Column.{Column}
 use Rattle.dict_schema.specs.declared.definition.Definition.{Definition}
 use Rattle.dict_schema.specs.declared.fault.DefFault.TheVariants as fault
 use Rattle.dict_schema.specs.Judging.{AreClear, IsClear, Numbered, Rule, Where}

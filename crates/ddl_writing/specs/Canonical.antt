@@ -1,5 +1,5 @@
 -- The one text of a definition: one space between its parts, and names in backquotes.
-use Rattle.std.specs.Prelude.{◌≡◌, ◌-◌, ℕ, Bool, true, false, List, [], ◌∷◌, ◌++◌, Option, Some, None, codes, decimal}
+use Rattle.std.specs.Prelude.{◌≡◌, ℕ, Bool, true, false, List, [], ◌∷◌, ◌++◌, Some, None, codes, decimal}
 use Rattle.std.specs.Prelude.{if◌then◌else◌, length, nat_lt, slice_get}
 use Rattle.std.specs.List.{flat_map, range_with_len}
 use Rattle.dict_value.specs.Values.{FitsColumn, value_text}

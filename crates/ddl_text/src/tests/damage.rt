@@ -6,7 +6,7 @@ use dict_value::{Bytes, NoMemory};
 use std::alloc::Global;
 use std::test::Fail;
 
-const SHOP: &[u8] = b"-- lookups of the shop
+pub(super) const SHOP: &[u8] = b"-- lookups of the shop
 CREATE DICTIONARY geo.country (
   id UInt64,
   name String DEFAULT 'unknown'

@@ -1,4 +1,4 @@
-use Rattle.std.proofs.Common.{◌≡◌, ◌++◌, take}
+use Rattle.std.proofs.Common.{◌≡◌, ◌++◌}
 use Rattle.std.specs.List.{flat_map, range_with_len}
 use Rattle.ddl_writing.specs.Canonical.{listed_column}
 use Rattle.ddl_writing.proofs.columns.push_columns.Given as goal

@@ -1,5 +1,5 @@
 use Rattle.std.proofs.Common.{◌≡◌, ◌++◌, take}
-use Rattle.std.specs.List.{flat_map, range_with_len}
+use Rattle.std.specs.List.{flat_map}
 use Rattle.ddl_writing.specs.Canonical.{and_then, column_name_text}
 use Rattle.ddl_writing.proofs.columns.push_other_keys.Given as goal
 

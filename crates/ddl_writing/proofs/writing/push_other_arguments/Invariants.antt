@@ -1,5 +1,5 @@
 use Rattle.std.proofs.Common.{◌≡◌, ◌++◌, take}
-use Rattle.std.specs.List.{flat_map, range_with_len}
+use Rattle.std.specs.List.{flat_map}
 use Rattle.ddl_writing.specs.Canonical.{and_then, typed_text}
 use Rattle.ddl_writing.proofs.writing.push_other_arguments.Given as goal
 
