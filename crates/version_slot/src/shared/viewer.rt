@@ -160,6 +160,7 @@ impl<V: Entry, F: Fact<V>> Viewer for SharedViewer<V, F> {
             }
             Err(EnterFault::NoMemory) => Err(EnterFault::NoMemory),
         };
+        // what reads the view gives the fact of its entries
         let _number = self.known.number();
         seen
     }
@@ -168,6 +169,7 @@ impl<V: Entry, F: Fact<V>> Viewer for SharedViewer<V, F> {
         if self.known.is_within(told) {
             self.known = told.again();
         }
+        // as above
         let _number = self.known.number();
     }
 }
