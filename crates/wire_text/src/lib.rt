@@ -21,7 +21,7 @@ mod words;
 mod writing;
 
 pub use laws::{one_block_of_a_text, one_list_of_requests, one_request, one_value_of_a_text};
-pub use lines::{MOST_BLOCK_BYTES, MOST_BLOCK_LINES, MOST_REQUESTS, lines_after};
+pub use lines::{MOST_BLOCK_BYTES, MOST_BLOCK_LINES, MOST_LINE_BYTES, MOST_REQUESTS, lines_after};
 pub use reading::read_request;
 pub use reply::{Line, Mark, Reply, ReplyFault, StatusLine};
 pub use request::{Asked, Request, RequestFault, Verb};
