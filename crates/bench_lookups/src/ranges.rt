@@ -35,7 +35,8 @@ fn key_of(alloc: Global, number: u64) -> io::Result<KeyList> {
 
 /// The range of a row: the ten of a key begin about a hundred points from each other, and overlap; those of
 /// one key begin and end anywhere.
-fn range_of(spread: Spread, keys: u64, row: u64) -> Ends {
+fn range_of(spread: Spread, keys: u64, row: u32) -> Ends {
+    let row = u64::from(row);
     let (start, width) = (scattered(row), scattered(row ^ (1 << 41)));
     let (low, width) = match spread {
         Spread::Ten => (row / keys.max(1) * 100 + start % 50, width % 200),
@@ -54,7 +55,7 @@ pub fn rows(alloc: Global, spread: Spread, count: u32) -> io::Result<(Vec<KeyLis
     let mut ends = Vec::with_capacity(alloc, count as usize)?;
     for row in 0..count {
         lists.push(key_of(alloc, u64::from(row) % keys)?)?;
-        ends.push(range_of(spread, keys, u64::from(row)))?;
+        ends.push(range_of(spread, keys, row))?;
     }
     Ok((lists, ends))
 }

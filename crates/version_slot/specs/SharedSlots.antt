@@ -5,8 +5,8 @@
 -- What its publisher, a viewer or a token has is a list that the slot's list had come to (Reached). So of two of them,
 -- whosever they are, the longer begins with the shorter (AreOfOneList). Five kinds of step change what they have:
 -- making gives the publisher and each viewer the empty list; publishing takes the publisher's to the list with one
--- entry more; telling gives a token the list of the one that tells; entering takes a viewer's to what is shown, which
--- begins with what it had; learning takes it to the token's where that is longer.
+-- entry more; telling gives a token the list of the one that tells; entering takes a viewer's to what is shown, where
+-- that is at least as long; learning takes it to the token's where that is longer.
 use Rattle.std.specs.Prelude.{ℕ, ◌≡◌, ◌≤◌, ◌==◌, Bool, true, List, [], ◌∷◌, ◌++◌, length, MatchBool, ⊤}
 use mathlib.Core.List.{IsPrefix}
 use Rattle.logbook.specs.Pages.{Book, Named}
@@ -51,8 +51,8 @@ module _ {E : Type 0} (allows : List E → E → Type 0) where
     pub counted : words ≡ (length list, true) ∷ (0, true) ∷ []
     pub fact : EachHasFact allows list
 
-  -- what an appending tells: the list was the one that had been seen, and the entry stands behind it; or it was longer,
-  -- and nothing is appended
+  -- what an appending tells where the list was the one that had been seen: the entry stands behind it, and its fact
+  -- holds; of a longer list nothing is told
   abbrev pub Appends : ℕ → E → List E → ℕ → List E → Type 0
   Appends seen_length e seen found after =
       MatchBool (found == seen_length) ((after ≡ seen ++ e ∷ []) × EachHasFact allows after) ⊤

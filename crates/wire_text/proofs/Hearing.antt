@@ -1,5 +1,5 @@
--- An input has one list of requests.
-use Rattle.std.proofs.Common.{◌≡◌, ◌≢◌, ◌⊎◌, ◌<◌, ◌+◌, ◌++◌, ◌∙◌, ℕ, zero, suc, List, [], ◌∷◌, Bool, true, false, length}
+-- An input has one list of requests, and can't have none.
+use Rattle.std.proofs.Common.{◌≡◌, ◌≢◌, ◌⊎◌, ◌<◌, ◌≤◌, ◌+◌, ◌++◌, ◌∙◌, ℕ, zero, suc, List, [], ◌∷◌, Bool, true, false, length}
 use Rattle.std.proofs.Common.{refl, sym, ap, subst, inl, inr, arith}
 use Rattle.dict_value.proofs.Cuts.{cut-once, digits-lack, lacks-not}
 use Rattle.dict_value.specs.Split.{Lacks}
@@ -7,7 +7,7 @@ use Rattle.dict_value.specs.declared.letters.TheConstants.{LINE_FEED, TAB}
 use Rattle.wire_text.proofs.Answering.{request_once}
 use Rattle.wire_text.proofs.BlockLines.{block_once}
 use Rattle.wire_text.specs.Requests.{IsBlockLine, IsRequest, LinesAfter}
-use Rattle.wire_text.specs.RequestTexts.{FirstLine, FirstLines, FirstRequest, Heard, HeardOf, Hears, IsTooLarge}
+use Rattle.wire_text.specs.RequestTexts.{FirstLine, FirstLines, FirstRequest, Heard, HeardOf, Hears, IsBlockHead, IsTooLarge}
 use Rattle.wire_text.specs.declared.request.Request.{Request}
 use Rattle.wire_text.specs.declared.request.Request.TheVariants as request
 
@@ -18,19 +18,19 @@ not_ended text line rest lacks e = lacks-not LINE_FEED line rest (subst (λ (t :
 -- one line stands first
 line_once : (closed : Bool) (text a b p q : List ℕ) → FirstLine closed text a p → FirstLine closed text b q
     → (a ≡ b) × (p ≡ q)
-line_once closed text a b p q (FirstLine.ended x e) (FirstLine.ended y f) = cut-once LINE_FEED a p b q x y (sym e ∙ f)
-line_once closed text a b p q (FirstLine.ended x e) (FirstLine.last o y n f) =
+line_once closed text a b p q (FirstLine.ended x k e) (FirstLine.ended y l f) = cut-once LINE_FEED a p b q x y (sym e ∙ f)
+line_once closed text a b p q (FirstLine.ended x k e) (FirstLine.last o y l n f) =
     absurd (not_ended text a p (subst (λ (t : List ℕ). Lacks LINE_FEED t) (sym f) y) e)
-line_once closed text a b p q (FirstLine.last o x n e) (FirstLine.ended y f) =
+line_once closed text a b p q (FirstLine.last o x k n e) (FirstLine.ended y l f) =
     absurd (not_ended text b q (subst (λ (t : List ℕ). Lacks LINE_FEED t) (sym e) x) f)
-line_once closed text a b p q (FirstLine.last o x n e) (FirstLine.last u y m f) = (sym e ∙ f, refl)
+line_once closed text a b p q (FirstLine.last o x k n e) (FirstLine.last u y l m f) = (sym e ∙ f, refl)
 
 -- no line stands in an empty text
 no_line : (closed : Bool) (text line rest : List ℕ) → text ≡ [] → FirstLine closed text line rest → ⊥
-no_line closed text [] rest none (FirstLine.ended x e) = let stands : [] ≡ LINE_FEED ∷ rest = sym none ∙ e in cc
-no_line closed text (b ∷ line) rest none (FirstLine.ended x e) =
+no_line closed text [] rest none (FirstLine.ended x k e) = let stands : [] ≡ LINE_FEED ∷ rest = sym none ∙ e in cc
+no_line closed text (b ∷ line) rest none (FirstLine.ended x k e) =
     let stands : [] ≡ b ∷ (line ++ LINE_FEED ∷ rest) = sym none ∙ e in cc
-no_line closed text line rest none (FirstLine.last o x n e) = n (sym e ∙ none)
+no_line closed text line rest none (FirstLine.last o x k n e) = n (sym e ∙ none)
 
 -- so many lines stand first in one way
 lines_once : (closed : Bool) (count : ℕ) (text p q : List ℕ) (a b : List (List ℕ)) → FirstLines closed count text a p
@@ -142,3 +142,54 @@ hears_once closed (suc most) text h k
     let rest : p ≡ q = ap (λ (t : Parts). t.1.1.1.1) parts in
     let tail : v ≡ w = hears_once closed most q v w (subst (λ (t : List ℕ). Hears closed most t v) rest later) after in
     rw (heard, tail) refl
+
+-- ---- an input can't have none
+
+-- what holds in either case of anything can't fail to hold
+either_way : (P : Type 0) → ((P ⊎ (P → ⊥)) → ⊥) → ⊥
+either_way P never = never (inr (λ p. never (inl p)))
+
+-- there are at most as many lines as are wanted
+lines_within : (closed : Bool) (count : ℕ) (text rest : List ℕ) (more : List (List ℕ)) → FirstLines closed count text more rest
+    → length more ≤ count
+lines_within closed zero text rest more FirstLines.none = omega arith
+lines_within closed (suc count) text rest more (FirstLines.lacking o) = omega arith
+lines_within closed (suc count) text rest more (FirstLines.line {behind = behind} {more = others} x others_first) =
+    let within = lines_within closed count behind rest others others_first in omega (arith, within)
+
+-- each request is heard as something
+heard_some : (first : List ℕ) (more : List (List ℕ)) (count : ℕ) (behind rest : List ℕ) → length more ≤ count
+    → ((h : Heard) → HeardOf first more count behind rest h → ⊥) → ⊥
+heard_some first more count behind rest within never =
+    either_way (IsTooLarge count behind rest) λ large. elim large [
+      | inl l ↦ either_way (IsBlockHead first) λ head. elim head [
+        | inl h ↦ never Heard.too_large (HeardOf.large l h)
+        | inr n ↦ never Heard.bad (HeardOf.large_bad l n)
+      ]
+      | inr n ↦ either_way (length more ≡ count) λ whole. elim whole [
+        | inl e ↦ either_way ((asked : Request) × IsRequest first more asked) λ request. elim request [
+          | inl r ↦ never (Heard.asks r.0) (HeardOf.whole n e r.1)
+          | inr none ↦ never Heard.bad (HeardOf.unread n e (λ asked is. none (asked, is)))
+        ]
+        | inr other ↦ never Heard.bad (HeardOf.cut n (omega (arith, within, other)))
+      ]
+    ]
+
+-- the lines of a request that stands first
+abbrev StandsFirst : Bool → List ℕ → Type 0
+StandsFirst closed text =
+    (first : List ℕ) × (more : List (List ℕ)) × (rest : List ℕ) × FirstRequest closed text first more rest
+
+pub hears_some : (closed : Bool) (most : ℕ) (text : List ℕ) → ((heard : List Heard) → Hears closed most text heard → ⊥) → ⊥
+hears_some closed zero text never = never [] Hears.spent
+hears_some closed (suc most) text never = either_way (StandsFirst closed text) λ stands. elim stands [
+  | inr none ↦ never [] (Hears.over (λ first more rest r. none (first, more, rest, r)))
+  | inl s ↦
+      let r = s.3 in
+      let within = lines_within closed r.count r.behind s.2 s.1 r.lines in
+      heard_some s.0 s.1 r.count r.behind s.2 within λ h is.
+      either_way (h ≡ Heard.asks request.Quit) λ quit. elim quit [
+        | inl e ↦ never (Heard.asks request.Quit ∷ []) (Hears.quits r (subst (λ (k : Heard). HeardOf s.0 s.1 r.count r.behind s.2 k) e is))
+        | inr other ↦ hears_some closed most s.2 λ later l. never (h ∷ later) (Hears.next r is other l)
+      ]
+]

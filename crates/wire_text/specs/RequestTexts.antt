@@ -1,27 +1,31 @@
 -- What is heard of an input: the requests that stand in it one behind another, up to the first `quit`.
-use Rattle.std.specs.Prelude.{◌≡◌, ◌≢◌, ◌⊎◌, ◌<◌, ◌+◌, ◌++◌, ℕ, suc, List, [], ◌∷◌, Bool, true, false, length, codes}
+use Rattle.std.specs.Prelude.{◌≡◌, ◌≢◌, ◌⊎◌, ◌<◌, ◌≤◌, ◌+◌, ◌++◌, ℕ, suc, List, [], ◌∷◌, Bool, true, false, length, codes}
 use Rattle.dict_value.specs.Split.{Lacks}
 use Rattle.dict_value.specs.declared.letters.TheConstants.{LINE_FEED}
 use Rattle.dict_value.specs.declared.value.Field.{Field}
 use Rattle.dict_value.specs.declared.value.Field.TheVariants.{Text}
 use Rattle.row_text.specs.TabRow.{IsTabRow}
 use Rattle.wire_text.specs.Requests.{IsBlockLine, IsLookup, IsRequest, LinesAfter}
-use Rattle.wire_text.specs.declared.lines.TheConstants.{MOST_BLOCK_BYTES, MOST_BLOCK_LINES, MOST_REQUESTS}
+use Rattle.wire_text.specs.declared.lines.TheConstants.{MOST_BLOCK_BYTES, MOST_BLOCK_LINES, MOST_LINE_BYTES}
+use Rattle.wire_text.specs.declared.lines.TheConstants.{MOST_REQUESTS}
 use Rattle.wire_text.specs.declared.request.Request.{Request}
 use Rattle.wire_text.specs.declared.request.Request.TheVariants as request
 use Rattle.wire_text.specs.declared.request.Verb.{Verb}
 
--- What is heard of a request: what it asks for, that it has no reading, or that it is too large.
+-- What is heard of a request: what it asks for, that it has no reading, or that it has more lines or bytes than a request
+-- may have. That the row of a key is too large for a child is found later, by its definition.
 pub data Heard : Type 0 where
   asks : Request → Heard
   bad : Heard
   too_large : Heard
 
--- The line that stands first in a text, and what stands behind it. Where the input was read to its end, the last line
--- may lack its line feed.
+-- The line that stands first in a text, and what stands behind it; there is none where more bytes than a line may have
+-- stand next. Where the input was read to its end, the last line may lack its line feed.
 pub data FirstLine (closed : Bool) (text line : List ℕ) : List ℕ → Type 0 where
-  ended : {rest : List ℕ} → Lacks LINE_FEED line → text ≡ line ++ LINE_FEED ∷ rest → FirstLine closed text line rest
-  last : closed ≡ true → Lacks LINE_FEED line → line ≢ [] → text ≡ line → FirstLine closed text line []
+  ended : {rest : List ℕ} → Lacks LINE_FEED line → length line ≤ MOST_LINE_BYTES → text ≡ line ++ LINE_FEED ∷ rest
+      → FirstLine closed text line rest
+  last : closed ≡ true → Lacks LINE_FEED line → length line ≤ MOST_LINE_BYTES → line ≢ [] → text ≡ line
+      → FirstLine closed text line []
 
 -- So many lines that stand first in a text, and what stands behind them. Where the input was read to its end, they may
 -- be all that there are.
@@ -67,8 +71,8 @@ pub data HeardOf (first : List ℕ) (more : List (List ℕ)) (count : ℕ) (behi
       → ((asked : Request) → ¬ IsRequest first more asked) → HeardOf first more count behind rest bad
   cut : ¬ IsTooLarge count behind rest → length more < count → HeardOf first more count behind rest bad
 
--- What is heard of a text, at most so many requests. Where the input was not read to its end, a request is heard once
--- all its lines have ended.
+-- What is heard of a text, at most so many requests. Where the input was not read to its end, or more bytes than a line
+-- may have stand next, a request is heard if all its lines ended before.
 pub data Hears (closed : Bool) : ℕ → List ℕ → List Heard → Type 0 where
   spent : {text : List ℕ} → Hears closed 0 text []
   over : {most : ℕ} {text : List ℕ} → ((first : List ℕ) (more : List (List ℕ)) (rest : List ℕ)

@@ -1,4 +1,4 @@
-// What holds of every line, whatever is called.
+// What holds of every input and every reply, whatever is called.
 ghost use Rattle.std.specs.Prelude.{◌≡◌, ◌<◌, ◌^◌, ℕ, List, Bool, length, map};
 ghost use Rattle.std.specs.List.{AllByRecursion};
 ghost use Rattle.wire_text.specs.Replies.{IsNumbered, IsWholeLine, reply_text, told_line};
@@ -15,9 +15,10 @@ pub fn one_request()
         → IsRequest line more other → request ≡ other }
 {}
 
-/// An input has one list of requests.
+/// An input has one list of requests: it can't have none, and it has no two.
 pub fn one_list_of_requests()
-    ensures { (closed : Bool) (text : List ℕ) (heard others : List Heard) → AreHeard closed text heard
+    ensures some { (closed : Bool) (text : List ℕ) → ¬ ((heard : List Heard) → ¬ AreHeard closed text heard) }
+    ensures one { (closed : Bool) (text : List ℕ) (heard others : List Heard) → AreHeard closed text heard
         → AreHeard closed text others → heard ≡ others }
 {}
 

@@ -8,6 +8,9 @@ use crate::decimals::read_decimal;
 use dict_value::letters::TAB;
 use dict_value::split_at_byte;
 
+/// The greatest number of bytes of a line, without its line feed.
+pub const MOST_LINE_BYTES: u32 = 65_536;
+
 /// The greatest number of lines that may follow the first line of a request.
 pub const MOST_BLOCK_LINES: u32 = 4_096;
 

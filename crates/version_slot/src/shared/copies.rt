@@ -57,7 +57,7 @@ pub type SlotCopies<V, F, R> = Copies<Shown<V, F>, Shown<V, F>, OneSlot, R>;
 
 pub(super) type SlotReader<V, F> = Reader<Shown<V, F>, Known, OneSlot>;
 
-// Shows the next value. Where it is refused, what it leaves pending is replaced by the next call.
+// Shows the next value. Where it is refused, what it leaves pending is replaced by the next showing, if one comes.
 fn show<V: Entry, F: Fact<V>, R: Wait>(
     writer: SlotWriter<V, F>,
     rt: &R,

@@ -71,13 +71,16 @@ fn enter_number(viewer: &mut NumberViewer) -> Result<u64, EnterFault> {
     Ok(viewer.enter()?.number())
 }
 
-/// Two viewers enter while a publisher publishes. Then each has learnt the last token: what do they enter next, and
-/// what once the publisher is gone?
-fn enter_beside<R: Threads + Wait>(rt: &R, alloc: Global) -> Option<[Result<u64, EnterFault>; 4]> {
-    let Ok((publisher, mut viewers)) = SharedSlot::<u64, OwnNumber>::new(rt, alloc, 2) else {
+/// Two viewers enter while a publisher publishes. Then each has learnt the last token, and a third viewer none: what do
+/// they enter next, and what do the two once the publisher is gone?
+fn enter_beside<R: Threads + Wait>(rt: &R, alloc: Global) -> Option<[Result<u64, EnterFault>; 5]> {
+    let Ok((publisher, mut viewers)) = SharedSlot::<u64, OwnNumber>::new(rt, alloc, 3) else {
         return None;
     };
     let (Some(one), Some(two)) = (viewers.pop_front(), viewers.pop_front()) else {
+        return None;
+    };
+    let Some(mut untold) = viewers.pop_front() else {
         return None;
     };
     let (one, (two, published)) = join(
@@ -98,10 +101,12 @@ fn enter_beside<R: Threads + Wait>(rt: &R, alloc: Global) -> Option<[Result<u64,
     one.learn(&mut newest);
     two.learn(&mut newest);
     let before = (enter_number(&mut one), enter_number(&mut two));
+    let seen = enter_number(&mut untold);
     drop(publisher);
     Some([
         before.0,
         before.1,
+        seen,
         enter_number(&mut one),
         enter_number(&mut two),
     ])
@@ -117,6 +122,7 @@ fn numbers_never_fall(rt: HostRuntime) -> Result<(), Fail> {
         assert_eq!(rt;
             entered,
             [
+                Ok(ENTRIES),
                 Ok(ENTRIES),
                 Ok(ENTRIES),
                 Err(EnterFault::Shut),
