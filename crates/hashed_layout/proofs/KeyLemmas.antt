@@ -6,7 +6,6 @@ use Rattle.std.proofs.lemmas.Bool.{cases_eq, cases_lt, eqb-true}
 use Rattle.std.proofs.lemmas.List.{append_assoc, append_cancel_left, drop_all, length-take-le, take_more_set}
 use Rattle.std.specs.Prelude.{IsTrue, MatchOption, None, Option, Some}
 use denote.Bor.{Bor}
-use Rattle.std.specs.declared.hash.FoldHasher.{FoldHasher}
 use Rattle.hashed_layout.specs.KeyHash.{hashed_on}
 use Rattle.dict_value.specs.declared.value.Value.{Value}
 use Rattle.dict_value.specs.declared.value.Value.TheVariants.{U, I, S, Day, Second, Id, V4, V6, Dec, Null}
@@ -258,6 +257,6 @@ module _ (bytes : List ℕ) (key : List Value) (i : ℕ) (all : length key ≤ i
     ],
   )
 
--- the hasher behind the last value
-pub hashed-all : (hasher : FoldHasher) (key : List Value) (i : ℕ) → length key ≤ i → hashed_on hasher (drop i key) ≡ hasher
-hashed-all hasher key i all = ap (hashed_on hasher) (drop_all i key all)
+-- the state behind the last value
+pub hashed-all : (state : ℕ) (key : List Value) (i : ℕ) → length key ≤ i → hashed_on state (drop i key) ≡ state
+hashed-all state key i all = ap (hashed_on state) (drop_all i key all)

@@ -26,7 +26,7 @@ tag_in cell = cell / 2 ^ 23
 
 -- the tag of a key: nine bits of its hash, none of those that its home is taken from
 abbrev pub tag_of : List Value → ℕ
-tag_of key = hash_of key % 2 ^ 9
+tag_of key = hash_of key % 2 ^ 32 / 2 ^ 23
 
 -- the number in the cell at a place of the table
 abbrev pub number_at : List ℕ → ℕ → ℕ

@@ -1,5 +1,5 @@
 // Rows by a key list.
-ghost use Rattle.std.specs.Prelude.{◌≡◌, ◌↔◌, ◌+◌, ◌*◌, ◌%◌, ◌<◌, ◌≤◌, ◌^◌, ℕ, List, IfOk, IfSome, IsTrue, OnOk, length};
+ghost use Rattle.std.specs.Prelude.{◌≡◌, ◌↔◌, ◌+◌, ◌*◌, ◌/◌, ◌%◌, ◌<◌, ◌≤◌, ◌^◌, ℕ, List, IfOk, IfSome, IsTrue, OnOk, length};
 ghost use Rattle.dict_value.specs.FindByKey.{FindsByKey, HasKeyAt};
 ghost use Rattle.dict_value.specs.declared.value.TheConstants.{MOST_ROWS};
 ghost use Rattle.dict_value.specs.declared.value.Value.{Value};
@@ -58,9 +58,9 @@ fn tag_in(cell: u32) -> u32
 /// The tag of a key that is hashed to this number.
 #[inline(always)]
 fn tag_of(bits: u64) -> u32
-    ensures { result ≡ bits % 2 ^ 9 }
+    ensures { result ≡ bits % 2 ^ 32 / 2 ^ 23 }
 {
-    (bits % (1 << 9)) as u32
+    (bits % (1 << 32)) as u32 >> 23
 }
 
 /// The cell with a tag and a number.

@@ -2,13 +2,18 @@
 ghost use Rattle.std.specs.Prelude.{◌≡◌, ◌≢◌, ◌≤◌, ◌↔◌, ◌∷◌, ◌++◌, ℕ, List, length, take, IsTrue, MatchOption, OnOk};
 ghost use Rattle.hashed_layout.specs.KeyBytes.{BeginsWithKey, digits_to, head_bytes, key_bytes, kind_of, number_of};
 ghost use Rattle.hashed_layout.specs.KeyBytes.{string_of, value_bytes};
-ghost use Rattle.hashed_layout.specs.KeyHash.{hash_of};
+ghost use Rattle.hashed_layout.specs.KeyHash.{bits_of, folded, hash_of, text_bits};
 
+use crate::probing::mixed;
 use dict_value::{Bytes, KeyList, NoMemory, Value};
 use std::hash::{FoldHasher, Hasher};
 
 /// The byte behind the last value of a key list. No kind of value has this number.
 pub(crate) const END_MARK: u8 = 255;
+
+/// The bits that stand for NULL in a hash, and those that a hash begins with: any would do.
+pub(crate) const NULL_BITS: u64 = 0x9e37_79b9_7f4a_7c15;
+pub(crate) const SEED: u64 = 0x243f_6a88_85a3_08d3;
 
 /// The greatest number of digits of a value's number.
 const MOST_DIGITS: usize = 16;
@@ -125,17 +130,51 @@ pub(crate) fn push_key(out: &mut Bytes, key: &KeyList) -> Result<(), NoMemory>
     out.push(END_MARK)
 }
 
+/// 64 bits of a number of 128.
+fn folded(number: u128) -> u64
+    ensures { result ≡ folded number }
+{
+    (number % (1 << 64)) as u64 ^ mixed((number >> 64) as u64)
+}
+
+/// 64 bits of a text.
+#[inline(always)]
+fn text_bits(text: &[u8]) -> u64
+    ensures { result ≡ text_bits text.now }
+{
+    let mut hasher = FoldHasher::default();
+    hasher.write(text);
+    hasher.finish()
+}
+
+/// 64 bits of a value.
+#[inline(always)]
+fn bits_of(value: &Value) -> u64
+    ensures { result ≡ bits_of value.now }
+{
+    match value {
+        Value::Null => NULL_BITS,
+        Value::U(n) => *n,
+        Value::I(z) => z.cast_unsigned(),
+        Value::S(text) => text_bits(text.as_slice()),
+        Value::Day(n) => u64::from(*n),
+        Value::Second(n) => u64::from(*n),
+        Value::Id(n) => folded(*n),
+        Value::V4(n) => u64::from(*n),
+        Value::V6(n) => folded(*n),
+        Value::Dec(z) => folded(z.cast_unsigned()),
+    }
+}
+
 /// The number that a key list is hashed to.
 pub(crate) fn hash_of(key: &KeyList) -> u64
     ensures { result ≡ hash_of key.now }
 {
-    let mut hasher = FoldHasher::default();
+    let mut state = SEED;
     for value in key.as_slice() {
-        let head = head_of(value);
-        hasher.write(&head.bytes[..head.len]);
-        hasher.write(string_of(value));
+        state = mixed(state ^ bits_of(value));
     }
-    hasher.finish()
+    state
 }
 
 /// About how many bytes key lists have, so that they are stored without growing; any number would do.
