@@ -1,6 +1,6 @@
 // The bytes of key lists, compared and hashed without being written down.
-ghost use Rattle.std.specs.Prelude.{◌≡◌, ◌≢◌, ◌≤◌, ◌↔◌, ◌∷◌, ◌++◌, ℕ, List, length, take, IsTrue, MatchOption, OnOk};
-ghost use Rattle.hashed_layout.specs.KeyBytes.{BeginsWithKey, digits_to, head_bytes, key_bytes, kind_of, number_of};
+ghost use Rattle.std.specs.Prelude.{◌≡◌, ◌≢◌, ◌≤◌, ◌↔◌, ◌∷◌, ◌++◌, ℕ, List, drop, length, take, IsTrue, MatchOption, OnOk};
+ghost use Rattle.hashed_layout.specs.KeyBytes.{BeginsWithKey, digits_of, digits_to, head_bytes, key_bytes, kind_of, number_of};
 ghost use Rattle.hashed_layout.specs.KeyBytes.{string_of, value_bytes};
 ghost use Rattle.hashed_layout.specs.KeyHash.{bits_of, folded, hash_of, text_bits};
 
@@ -13,6 +13,7 @@ pub(crate) const END_MARK: u8 = 255;
 
 /// The bits that stand for NULL in a hash, and those that a hash begins with: any would do.
 pub(crate) const NULL_BITS: u64 = 0x9e37_79b9_7f4a_7c15;
+
 pub(crate) const SEED: u64 = 0x243f_6a88_85a3_08d3;
 
 /// The greatest number of digits of a value's number.
@@ -92,16 +93,62 @@ fn behind<'a>(bytes: &'a [u8], piece: &[u8]) -> Option<&'a [u8]>
     bytes.strip_prefix(piece)
 }
 
+/// How many digits a number has, where bytes begin with them.
+#[inline(always)]
+fn digits_met(bytes: &[u8], number: u128) -> Option<usize>
+    ensures { MatchOption result ((rest : List ℕ) → bytes.now ≢ digits_of number ++ rest)
+        (λ count. (count ≡ length (digits_of number)) × (bytes.now ≡ digits_of number ++ drop count bytes.now)) }
+{
+    let mut left = number;
+    let mut count = 0;
+    while left > 0 {
+        if count >= bytes.len() || bytes[count] != (left % 256) as u8 {
+            return None;
+        }
+        left /= 256;
+        count += 1;
+    }
+    Some(count)
+}
+
+/// What follows the head of a value that bytes begin with.
+#[inline(always)]
+fn behind_head<'a>(bytes: &'a [u8], value: &Value) -> Option<&'a [u8]>
+    ensures { MatchOption result ((rest : List ℕ) → bytes.now ≢ head_bytes value.now ++ rest)
+        (λ rest. bytes.now ≡ head_bytes value.now ++ rest.now) }
+{
+    let (kind, number) = kind_and_number(value);
+    if bytes.len() < 2 || bytes[0] != kind {
+        return None;
+    }
+    let digits = &bytes[2..];
+    match digits_met(digits, number) {
+        Some(count) if bytes[1] as usize == count => Some(&digits[count..]),
+        _ => None,
+    }
+}
+
+/// What follows the text of a value that bytes begin with.
+#[inline(always)]
+fn behind_string<'a>(bytes: &'a [u8], value: &Value) -> Option<&'a [u8]>
+    ensures { MatchOption result ((rest : List ℕ) → bytes.now ≢ string_of value.now ++ rest)
+        (λ rest. bytes.now ≡ string_of value.now ++ rest.now) }
+{
+    match value {
+        Value::S(text) => behind(bytes, text.as_slice()),
+        _ => Some(bytes),
+    }
+}
+
 /// What follows the bytes of a value that bytes begin with.
 fn behind_value<'a>(bytes: &'a [u8], value: &Value) -> Option<&'a [u8]>
     ensures { MatchOption result ((rest : List ℕ) → bytes.now ≢ value_bytes value.now ++ rest)
         (λ rest. bytes.now ≡ value_bytes value.now ++ rest.now) }
 {
-    let head = head_of(value);
-    let Some(rest) = behind(bytes, &head.bytes[..head.len]) else {
+    let Some(rest) = behind_head(bytes, value) else {
         return None;
     };
-    behind(rest, string_of(value))
+    behind_string(rest, value)
 }
 
 /// Whether bytes begin with those of a key list.
