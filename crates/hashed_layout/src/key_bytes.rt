@@ -11,9 +11,10 @@ use std::hash::{FoldHasher, Hasher};
 /// The byte behind the last value of a key list. No kind of value has this number.
 pub(crate) const END_MARK: u8 = 255;
 
-/// The bits that stand for NULL in a hash, and those that a hash begins with: any would do.
+/// The bits that stand for NULL in a hash: any would do.
 pub(crate) const NULL_BITS: u64 = 0x9e37_79b9_7f4a_7c15;
 
+/// The bits that a hash begins with: any would do.
 pub(crate) const SEED: u64 = 0x243f_6a88_85a3_08d3;
 
 /// The greatest number of digits of a value's number.
