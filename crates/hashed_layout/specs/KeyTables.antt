@@ -1,6 +1,6 @@
 -- What the table of a list of key lists keeps.
-use Rattle.std.specs.Prelude.{◌≡◌, ◌-◌, ◌+◌, ◌*◌, ◌/◌, ◌%◌, ◌^◌, ◌==◌, ◌<◌, ◌≤◌, ℕ, List, Option, Some, None, drop, length}
-use Rattle.std.specs.Prelude.{slice_get, slice_index, if◌then◌else◌}
+use Rattle.std.specs.Prelude.{◌≡◌, ◌-◌, ◌+◌, ◌*◌, ◌/◌, ◌%◌, ◌^◌, ◌==◌, ◌<◌, ◌≤◌, ℕ, List, Option, Some, None}
+use Rattle.std.specs.Prelude.{drop, length, slice_get, slice_index, if◌then◌else◌}
 use Rattle.dict_value.specs.FindByKey.{HasKeyAt, IsLeastPlace}
 use Rattle.dict_value.specs.declared.value.Value.{Value}
 use Rattle.hashed_layout.specs.KeyBytes.{BeginsWithKey}

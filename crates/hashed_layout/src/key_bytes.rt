@@ -1,7 +1,8 @@
 // The bytes of key lists, compared and hashed without being written down.
-ghost use Rattle.std.specs.Prelude.{◌≡◌, ◌≢◌, ◌≤◌, ◌↔◌, ◌∷◌, ◌++◌, ℕ, List, drop, length, take, IsTrue, MatchOption, OnOk};
-ghost use Rattle.hashed_layout.specs.KeyBytes.{BeginsWithKey, digits_of, digits_to, head_bytes, key_bytes, kind_of, number_of};
-ghost use Rattle.hashed_layout.specs.KeyBytes.{string_of, value_bytes};
+ghost use Rattle.std.specs.Prelude.{◌≡◌, ◌≢◌, ◌≤◌, ◌↔◌, ◌∷◌, ◌++◌, ℕ, List, drop, length, take};
+ghost use Rattle.std.specs.Prelude.{IsTrue, MatchOption, OnOk};
+ghost use Rattle.hashed_layout.specs.KeyBytes.{BeginsWithKey, digits_of, digits_to, head_bytes, key_bytes, kind_of};
+ghost use Rattle.hashed_layout.specs.KeyBytes.{number_of, string_of, value_bytes};
 ghost use Rattle.hashed_layout.specs.KeyHash.{bits_of, folded, hash_of, text_bits};
 
 use crate::probing::mixed;
