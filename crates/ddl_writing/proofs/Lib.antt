@@ -1,3 +1,2 @@
 mod Defaults
-mod Fronts
 mod Listed

@@ -22,7 +22,7 @@ fn push_strategy(out: &mut Bytes, strategy: Strategy) -> Result<(), NoMemory>
 }
 
 /// Appends the settings of a cache.
-#[tactic(auto, using(crate::proofs::Fronts::front_of))]
+#[tactic(auto, using(dict_value::proofs::Fronts::front_stays))]
 fn push_cache(out: &mut Bytes, cache: &CacheSet) -> Result<(), NoMemory>
     ensures ok { OnOk result (out.new ≡ out.old ++ cache_text cache.now) }
     ensures err { OnErr result (take (length out.old) out.new ≡ out.old) }
@@ -35,7 +35,7 @@ fn push_cache(out: &mut Bytes, cache: &CacheSet) -> Result<(), NoMemory>
 }
 
 /// Appends the layout FLAT.
-#[tactic(auto, using(crate::proofs::Fronts::front_of))]
+#[tactic(auto, using(dict_value::proofs::Fronts::front_stays))]
 fn push_flat(out: &mut Bytes, initial: u32, most: u32) -> Result<(), NoMemory>
     ensures ok { OnOk result (out.new ≡ out.old ++ flat_text initial most) }
     ensures err { OnErr result (take (length out.old) out.new ≡ out.old) }
@@ -46,7 +46,7 @@ fn push_flat(out: &mut Bytes, initial: u32, most: u32) -> Result<(), NoMemory>
 }
 
 /// Appends the name of a layout and its settings.
-#[tactic(auto, using(crate::proofs::Fronts::front_of))]
+#[tactic(auto, using(dict_value::proofs::Fronts::front_stays))]
 fn push_kept(out: &mut Bytes, kept: &Layout) -> Result<(), NoMemory>
     ensures ok { OnOk result (out.new ≡ out.old ++ kept_text kept.now) }
     ensures err { OnErr result (take (length out.old) out.new ≡ out.old) }
@@ -82,7 +82,7 @@ fn push_kept(out: &mut Bytes, kept: &Layout) -> Result<(), NoMemory>
 }
 
 /// Appends the layout.
-#[tactic(auto, using(crate::proofs::Fronts::front_of))]
+#[tactic(auto, using(dict_value::proofs::Fronts::front_stays))]
 fn push_layout(out: &mut Bytes, kept: &Layout) -> Result<(), NoMemory>
     ensures ok { OnOk result (out.new ≡ out.old ++ layout_text kept.now) }
     ensures err { OnErr result (take (length out.old) out.new ≡ out.old) }
@@ -93,7 +93,7 @@ fn push_layout(out: &mut Bytes, kept: &Layout) -> Result<(), NoMemory>
 }
 
 /// Appends after how many seconds a version is loaded anew.
-#[tactic(auto, using(crate::proofs::Fronts::front_of))]
+#[tactic(auto, using(dict_value::proofs::Fronts::front_stays))]
 fn push_lifetime(out: &mut Bytes, lifetime: &Lifetime) -> Result<(), NoMemory>
     ensures ok { OnOk result (out.new ≡ out.old ++ lifetime_text lifetime.now) }
     ensures err { OnErr result (take (length out.old) out.new ≡ out.old) }
@@ -104,7 +104,7 @@ fn push_lifetime(out: &mut Bytes, lifetime: &Lifetime) -> Result<(), NoMemory>
 }
 
 /// Appends the columns of a range.
-#[tactic(auto, using(crate::proofs::Fronts::front_of))]
+#[tactic(auto, using(dict_value::proofs::Fronts::front_stays))]
 fn push_range(out: &mut Bytes, d: &Definition, range: &RangeOf) -> Result<(), NoMemory>
     ensures ok { OnOk result (out.new ≡ out.old ++ range_text d.now range.now) }
     ensures err { OnErr result (take (length out.old) out.new ≡ out.old) }
@@ -122,7 +122,7 @@ fn push_range(out: &mut Bytes, d: &Definition, range: &RangeOf) -> Result<(), No
 }
 
 /// Appends the limit of a run's output.
-#[tactic(auto, using(crate::proofs::Fronts::front_of))]
+#[tactic(auto, using(dict_value::proofs::Fronts::front_stays))]
 pub(crate) fn push_output(out: &mut Bytes, most: u32) -> Result<(), NoMemory>
     ensures ok { OnOk result (out.new ≡ out.old ++ output_text most) }
     ensures err { OnErr result (take (length out.old) out.new ≡ out.old) }
@@ -132,7 +132,7 @@ pub(crate) fn push_output(out: &mut Bytes, most: u32) -> Result<(), NoMemory>
 }
 
 /// Appends the comment, where it isn't empty.
-#[tactic(auto, using(crate::proofs::Fronts::front_of))]
+#[tactic(auto, using(dict_value::proofs::Fronts::front_stays))]
 fn push_comment(out: &mut Bytes, text: &[u8]) -> Result<(), NoMemory>
     ensures ok { OnOk result (out.new ≡ out.old ++ comment_text text.now) }
     ensures err { OnErr result (take (length out.old) out.new ≡ out.old) }
@@ -145,7 +145,7 @@ fn push_comment(out: &mut Bytes, text: &[u8]) -> Result<(), NoMemory>
 }
 
 /// Appends the clauses behind the source.
-#[tactic(auto, using(crate::proofs::Fronts::front_of))]
+#[tactic(auto, using(dict_value::proofs::Fronts::front_stays))]
 pub(crate) fn push_clauses(out: &mut Bytes, d: &Definition) -> Result<(), NoMemory>
     ensures ok { OnOk result (out.new ≡ out.old ++ clauses_text d.now) }
     ensures err { OnErr result (take (length out.old) out.new ≡ out.old) }

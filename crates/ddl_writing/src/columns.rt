@@ -19,7 +19,7 @@ fn push_mark(out: &mut Bytes, marked: bool, word: &[u8]) -> Result<(), NoMemory>
 }
 
 /// Appends the marks of a column.
-#[tactic(auto, using(crate::proofs::Fronts::front_of))]
+#[tactic(auto, using(dict_value::proofs::Fronts::front_stays))]
 fn push_marks(out: &mut Bytes, column: &Column) -> Result<(), NoMemory>
     ensures ok { OnOk result (out.new ≡ out.old ++ marks_text column.now) }
     ensures err { OnErr result (take (length out.old) out.new ≡ out.old) }
@@ -30,7 +30,7 @@ fn push_marks(out: &mut Bytes, column: &Column) -> Result<(), NoMemory>
 }
 
 /// Appends the default of an attribute.
-#[tactic(auto, using(crate::proofs::Fronts::front_of))]
+#[tactic(auto, using(dict_value::proofs::Fronts::front_stays))]
 fn push_default(out: &mut Bytes, attribute: bool, column: &Column) -> Result<(), NoMemory>
     requires { DefaultFits column.now }
     ensures ok { OnOk result (out.new ≡ out.old ++ default_text attribute column.now) }
@@ -47,7 +47,7 @@ fn push_default(out: &mut Bytes, attribute: bool, column: &Column) -> Result<(),
 }
 
 /// Appends a column.
-#[tactic(auto, using(crate::proofs::Fronts::front_of))]
+#[tactic(auto, using(dict_value::proofs::Fronts::front_stays))]
 fn push_column(
     out: &mut Bytes,
     d: &Definition,
@@ -76,7 +76,7 @@ fn push_column_at(out: &mut Bytes, d: &Definition, place: usize) -> Result<(), N
 }
 
 /// Appends the column at a place behind what stands before it.
-#[tactic(auto, using(crate::proofs::Fronts::front_of))]
+#[tactic(auto, using(dict_value::proofs::Fronts::front_stays))]
 fn push_listed(out: &mut Bytes, d: &Definition, place: usize) -> Result<(), NoMemory>
     requires { DefaultsFit d.now }
     ensures ok { OnOk result (out.new ≡ out.old ++ listed_column d.now place) }
@@ -89,7 +89,7 @@ fn push_listed(out: &mut Bytes, d: &Definition, place: usize) -> Result<(), NoMe
 }
 
 /// Appends all columns.
-#[tactic(auto, using(crate::proofs::Fronts::front_of))]
+#[tactic(auto, using(dict_value::proofs::Fronts::front_stays))]
 pub(crate) fn push_columns(out: &mut Bytes, d: &Definition) -> Result<(), NoMemory>
     requires { DefaultsFit d.now }
     ensures ok { OnOk result (out.new ≡ out.old ++ columns_text d.now) }
@@ -113,7 +113,7 @@ pub(crate) fn push_column_name(out: &mut Bytes, d: &Definition, place: u8) -> Re
 }
 
 /// Appends the name of a key behind another.
-#[tactic(auto, using(crate::proofs::Fronts::front_of))]
+#[tactic(auto, using(dict_value::proofs::Fronts::front_stays))]
 fn push_other_key(out: &mut Bytes, d: &Definition, place: u8) -> Result<(), NoMemory>
     ensures ok { OnOk result (out.new ≡ out.old ++ and_then (column_name_text d.now place)) }
     ensures err { OnErr result (take (length out.old) out.new ≡ out.old) }
@@ -123,7 +123,7 @@ fn push_other_key(out: &mut Bytes, d: &Definition, place: u8) -> Result<(), NoMe
 }
 
 /// Appends the names of the keys behind the first one.
-#[tactic(auto, using(crate::proofs::Fronts::front_of))]
+#[tactic(auto, using(dict_value::proofs::Fronts::front_stays))]
 fn push_other_keys(out: &mut Bytes, d: &Definition, keys: &[u8]) -> Result<(), NoMemory>
     ensures ok { OnOk result (out.new ≡ out.old ++ other_keys_text d.now keys.now) }
     ensures err { OnErr result (take (length out.old) out.new ≡ out.old) }
@@ -135,7 +135,7 @@ fn push_other_keys(out: &mut Bytes, d: &Definition, keys: &[u8]) -> Result<(), N
 }
 
 /// Appends the names of the keys.
-#[tactic(auto, using(crate::proofs::Fronts::front_of))]
+#[tactic(auto, using(dict_value::proofs::Fronts::front_stays))]
 pub(crate) fn push_keys(out: &mut Bytes, d: &Definition, keys: &[u8]) -> Result<(), NoMemory>
     ensures ok { OnOk result (out.new ≡ out.old ++ keys_text d.now keys.now) }
     ensures err { OnErr result (take (length out.old) out.new ≡ out.old) }

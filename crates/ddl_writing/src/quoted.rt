@@ -47,7 +47,7 @@ fn push_byte(out: &mut Bytes, quote: u8, b: u8) -> Result<(), NoMemory>
 }
 
 /// Appends the bytes of a text in quotes.
-#[tactic(auto, using(crate::proofs::Fronts::front_of))]
+#[tactic(auto, using(dict_value::proofs::Fronts::front_stays))]
 fn push_bytes(out: &mut Bytes, quote: u8, text: &[u8]) -> Result<(), NoMemory>
     ensures ok { OnOk result (out.new ≡ out.old ++ flat_map (byte_in_quotes quote) text.now) }
     ensures err { OnErr result (take (length out.old) out.new ≡ out.old) }
@@ -59,7 +59,7 @@ fn push_bytes(out: &mut Bytes, quote: u8, text: &[u8]) -> Result<(), NoMemory>
 }
 
 /// Appends a text in quotes.
-#[tactic(auto, using(crate::proofs::Fronts::front_of))]
+#[tactic(auto, using(dict_value::proofs::Fronts::front_stays))]
 fn push_quoted(out: &mut Bytes, quote: u8, text: &[u8]) -> Result<(), NoMemory>
     ensures ok { OnOk result (out.new ≡ out.old ++ in_quotes quote text.now) }
     ensures err { OnErr result (take (length out.old) out.new ≡ out.old) }

@@ -39,7 +39,7 @@ fn push_kind(out: &mut Bytes, kind: Kind) -> Result<(), NoMemory>
 }
 
 /// Appends the command and the form of its output.
-#[tactic(auto, using(crate::proofs::Fronts::front_of))]
+#[tactic(auto, using(dict_value::proofs::Fronts::front_stays))]
 fn push_program(out: &mut Bytes, source: &SourceOf) -> Result<(), NoMemory>
     ensures ok { OnOk result (out.new ≡ out.old ++ program_text source.now) }
     ensures err { OnErr result (take (length out.old) out.new ≡ out.old) }
@@ -51,7 +51,7 @@ fn push_program(out: &mut Bytes, source: &SourceOf) -> Result<(), NoMemory>
 }
 
 /// Appends whether keys are left out of the output; a function has none.
-#[tactic(auto, using(crate::proofs::Fronts::front_of))]
+#[tactic(auto, using(dict_value::proofs::Fronts::front_stays))]
 fn push_implicit(out: &mut Bytes, of_function: bool, implicit: bool) -> Result<(), NoMemory>
     ensures ok { OnOk result (out.new ≡ out.old ++ implicit_text of_function implicit) }
     ensures err { OnErr result (take (length out.old) out.new ≡ out.old) }
@@ -64,7 +64,7 @@ fn push_implicit(out: &mut Bytes, of_function: bool, implicit: bool) -> Result<(
 }
 
 /// Appends the settings that are on or off.
-#[tactic(auto, using(crate::proofs::Fronts::front_of))]
+#[tactic(auto, using(dict_value::proofs::Fronts::front_stays))]
 fn push_flags(out: &mut Bytes, of_function: bool, source: &SourceOf) -> Result<(), NoMemory>
     ensures ok { OnOk result (out.new ≡ out.old ++ flags_text of_function source.now) }
     ensures err { OnErr result (take (length out.old) out.new ≡ out.old) }
@@ -77,7 +77,7 @@ fn push_flags(out: &mut Bytes, of_function: bool, source: &SourceOf) -> Result<(
 }
 
 /// Appends the limits of time.
-#[tactic(auto, using(crate::proofs::Fronts::front_of))]
+#[tactic(auto, using(dict_value::proofs::Fronts::front_stays))]
 fn push_times(out: &mut Bytes, source: &SourceOf) -> Result<(), NoMemory>
     ensures ok { OnOk result (out.new ≡ out.old ++ times_text source.now) }
     ensures err { OnErr result (take (length out.old) out.new ≡ out.old) }
@@ -88,7 +88,7 @@ fn push_times(out: &mut Bytes, source: &SourceOf) -> Result<(), NoMemory>
 }
 
 /// Appends the settings of a pool.
-#[tactic(auto, using(crate::proofs::Fronts::front_of))]
+#[tactic(auto, using(dict_value::proofs::Fronts::front_stays))]
 fn push_pool(out: &mut Bytes, source: &SourceOf) -> Result<(), NoMemory>
     ensures ok { OnOk result (out.new ≡ out.old ++ pool_text source.now source.now.kind) }
     ensures err { OnErr result (take (length out.old) out.new ≡ out.old) }
@@ -103,7 +103,7 @@ fn push_pool(out: &mut Bytes, source: &SourceOf) -> Result<(), NoMemory>
 }
 
 /// Appends which rows a load asks for.
-#[tactic(auto, using(crate::proofs::Fronts::front_of))]
+#[tactic(auto, using(dict_value::proofs::Fronts::front_stays))]
 fn push_update(out: &mut Bytes, update: &Update) -> Result<(), NoMemory>
     ensures ok { OnOk result (out.new ≡ out.old ++ update_text update.now) }
     ensures err { OnErr result (take (length out.old) out.new ≡ out.old) }
@@ -119,7 +119,7 @@ fn push_update(out: &mut Bytes, update: &Update) -> Result<(), NoMemory>
 }
 
 /// Appends all settings of a source.
-#[tactic(auto, using(crate::proofs::Fronts::front_of))]
+#[tactic(auto, using(dict_value::proofs::Fronts::front_stays))]
 fn push_settings(out: &mut Bytes, of_function: bool, source: &SourceOf) -> Result<(), NoMemory>
     ensures ok { OnOk result (out.new ≡ out.old ++ settings_text of_function source.now) }
     ensures err { OnErr result (take (length out.old) out.new ≡ out.old) }
@@ -132,7 +132,7 @@ fn push_settings(out: &mut Bytes, of_function: bool, source: &SourceOf) -> Resul
 }
 
 /// Appends a source.
-#[tactic(auto, using(crate::proofs::Fronts::front_of))]
+#[tactic(auto, using(dict_value::proofs::Fronts::front_stays))]
 pub(crate) fn push_source(
     out: &mut Bytes,
     of_function: bool,

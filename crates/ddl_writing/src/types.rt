@@ -8,7 +8,7 @@ use crate::quoted::{push_name, push_string};
 use dict_value::{AttrType, Bytes, ColType, NoMemory, Value, push_number, write_value};
 
 /// Appends the type of a Decimal.
-#[tactic(auto, using(crate::proofs::Fronts::front_of))]
+#[tactic(auto, using(dict_value::proofs::Fronts::front_stays))]
 fn push_decimal(out: &mut Bytes, digits: u8, scale: u8) -> Result<(), NoMemory>
     ensures ok { OnOk result (out.new ≡ out.old ++ decimal_text digits scale) }
     ensures err { OnErr result (take (length out.old) out.new ≡ out.old) }
@@ -45,7 +45,7 @@ fn push_base(out: &mut Bytes, t: ColType) -> Result<(), NoMemory>
 }
 
 /// Appends a type.
-#[tactic(auto, using(crate::proofs::Fronts::front_of))]
+#[tactic(auto, using(dict_value::proofs::Fronts::front_stays))]
 pub(crate) fn push_type(out: &mut Bytes, t: &AttrType) -> Result<(), NoMemory>
     ensures ok { OnOk result (out.new ≡ out.old ++ type_text t.now) }
     ensures err { OnErr result (take (length out.old) out.new ≡ out.old) }
@@ -59,7 +59,7 @@ pub(crate) fn push_type(out: &mut Bytes, t: &AttrType) -> Result<(), NoMemory>
 }
 
 /// Appends a value in quotes, whose text has no byte to escape.
-#[tactic(auto, using(crate::proofs::Fronts::front_of))]
+#[tactic(auto, using(dict_value::proofs::Fronts::front_stays))]
 fn push_as_string(out: &mut Bytes, t: &AttrType, v: &Value) -> Result<(), NoMemory>
     requires fits { FitsColumn t.now v.now }
     requires some { v.now ≢ Null }
@@ -86,7 +86,7 @@ pub(crate) fn push_literal(out: &mut Bytes, t: &AttrType, v: &Value) -> Result<(
 }
 
 /// Appends a name and its type.
-#[tactic(auto, using(crate::proofs::Fronts::front_of))]
+#[tactic(auto, using(dict_value::proofs::Fronts::front_stays))]
 pub(crate) fn push_typed(out: &mut Bytes, name: &[u8], t: &AttrType) -> Result<(), NoMemory>
     ensures ok { OnOk result (out.new ≡ out.old ++ typed_text name.now t.now) }
     ensures err { OnErr result (take (length out.old) out.new ≡ out.old) }

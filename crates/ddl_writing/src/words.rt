@@ -88,7 +88,7 @@ pub(crate) fn push_word(out: &mut Bytes, word: Word) -> Result<(), NoMemory>
 }
 
 /// Appends a setting and its number.
-#[tactic(auto, using(crate::proofs::Fronts::front_of))]
+#[tactic(auto, using(dict_value::proofs::Fronts::front_stays))]
 pub(crate) fn push_numbered(out: &mut Bytes, word: Word, n: u64) -> Result<(), NoMemory>
     ensures ok { OnOk result (out.new ≡ out.old ++ numbered word n) }
     ensures err { OnErr result (take (length out.old) out.new ≡ out.old) }

@@ -14,7 +14,7 @@ use dict_schema::{Arg, Definition, FunctionDef, Item};
 use dict_value::{Bytes, NoMemory};
 
 /// Appends the name, the columns and the keys of a dictionary.
-#[tactic(auto, using(crate::proofs::Fronts::front_of))]
+#[tactic(auto, using(dict_value::proofs::Fronts::front_stays))]
 fn push_table(out: &mut Bytes, d: &Definition) -> Result<(), NoMemory>
     requires { DefaultsFit d.now }
     ensures ok { OnOk result (out.new ≡ out.old ++ table_text d.now) }
@@ -29,7 +29,7 @@ fn push_table(out: &mut Bytes, d: &Definition) -> Result<(), NoMemory>
 }
 
 /// Appends a dictionary.
-#[tactic(auto, using(crate::proofs::Fronts::front_of))]
+#[tactic(auto, using(dict_value::proofs::Fronts::front_stays))]
 fn push_definition(out: &mut Bytes, d: &Definition) -> Result<(), NoMemory>
     requires { DefaultsFit d.now }
     ensures ok { OnOk result (out.new ≡ out.old ++ definition_text d.now) }
@@ -42,7 +42,7 @@ fn push_definition(out: &mut Bytes, d: &Definition) -> Result<(), NoMemory>
 }
 
 /// Appends an argument behind another.
-#[tactic(auto, using(crate::proofs::Fronts::front_of))]
+#[tactic(auto, using(dict_value::proofs::Fronts::front_stays))]
 fn push_other_argument(out: &mut Bytes, argument: &Arg) -> Result<(), NoMemory>
     ensures ok { OnOk result (out.new ≡ out.old ++ and_then (typed_text argument.now.name argument.now.ty)) }
     ensures err { OnErr result (take (length out.old) out.new ≡ out.old) }
@@ -52,7 +52,7 @@ fn push_other_argument(out: &mut Bytes, argument: &Arg) -> Result<(), NoMemory>
 }
 
 /// Appends the arguments behind the first one.
-#[tactic(auto, using(crate::proofs::Fronts::front_of))]
+#[tactic(auto, using(dict_value::proofs::Fronts::front_stays))]
 fn push_other_arguments(out: &mut Bytes, arguments: &[Arg]) -> Result<(), NoMemory>
     ensures ok { OnOk result (out.new ≡ out.old ++ other_arguments_text arguments.now) }
     ensures err { OnErr result (take (length out.old) out.new ≡ out.old) }
@@ -64,7 +64,7 @@ fn push_other_arguments(out: &mut Bytes, arguments: &[Arg]) -> Result<(), NoMemo
 }
 
 /// Appends the arguments of a function.
-#[tactic(auto, using(crate::proofs::Fronts::front_of))]
+#[tactic(auto, using(dict_value::proofs::Fronts::front_stays))]
 fn push_arguments(out: &mut Bytes, arguments: &[Arg]) -> Result<(), NoMemory>
     ensures ok { OnOk result (out.new ≡ out.old ++ arguments_text arguments.now) }
     ensures err { OnErr result (take (length out.old) out.new ≡ out.old) }
@@ -77,7 +77,7 @@ fn push_arguments(out: &mut Bytes, arguments: &[Arg]) -> Result<(), NoMemory>
 }
 
 /// Appends the name of a function, its arguments and what it gives.
-#[tactic(auto, using(crate::proofs::Fronts::front_of))]
+#[tactic(auto, using(dict_value::proofs::Fronts::front_stays))]
 fn push_signature(out: &mut Bytes, f: &FunctionDef) -> Result<(), NoMemory>
     ensures ok { OnOk result (out.new ≡ out.old ++ signature_text f.now) }
     ensures err { OnErr result (take (length out.old) out.new ≡ out.old) }
@@ -91,7 +91,7 @@ fn push_signature(out: &mut Bytes, f: &FunctionDef) -> Result<(), NoMemory>
 }
 
 /// Appends a function.
-#[tactic(auto, using(crate::proofs::Fronts::front_of))]
+#[tactic(auto, using(dict_value::proofs::Fronts::front_stays))]
 fn push_function(out: &mut Bytes, f: &FunctionDef) -> Result<(), NoMemory>
     ensures ok { OnOk result (out.new ≡ out.old ++ function_text f.now) }
     ensures err { OnErr result (take (length out.old) out.new ≡ out.old) }

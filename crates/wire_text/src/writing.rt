@@ -64,7 +64,7 @@ fn push_counts(out: &mut Bytes, s: &StatusLine) -> Result<(), NoMemory>
 }
 
 /// Appends the fields of a status.
-#[tactic(auto, using(crate::proofs::Fronts::front_of))]
+#[tactic(auto, using(dict_value::proofs::Fronts::front_stays))]
 fn push_status(out: &mut Bytes, s: &StatusLine) -> Result<(), NoMemory>
     ensures ok { OnOk result (out.new ≡ out.old ++ status_fields s.now) }
     ensures err { OnErr result (take (length out.old) out.new ≡ out.old) }
@@ -165,7 +165,7 @@ fn push_line(out: &mut Bytes, mark: Mark, line: &Line) -> Result<(), NoMemory>
 }
 
 /// Appends the lines of a block.
-#[tactic(auto, using(crate::proofs::Fronts::front_of))]
+#[tactic(auto, using(dict_value::proofs::Fronts::front_stays))]
 fn push_lines(out: &mut Bytes, mark: Mark, lines: &[Line]) -> Result<(), NoMemory>
     ensures ok { OnOk result (out.new ≡ out.old ++ flat_map (block_line mark) lines.now) }
     ensures err { OnErr result (take (length out.old) out.new ≡ out.old) }
@@ -177,7 +177,7 @@ fn push_lines(out: &mut Bytes, mark: Mark, lines: &[Line]) -> Result<(), NoMemor
 }
 
 /// Appends the first line of a reply, without its line feed.
-#[tactic(auto, using(crate::proofs::Fronts::front_of))]
+#[tactic(auto, using(dict_value::proofs::Fronts::front_stays))]
 fn push_first(out: &mut Bytes, r: &Reply) -> Result<(), NoMemory>
     ensures ok { OnOk result (out.new ≡ out.old ++ reply_fields r.now) }
     ensures err { OnErr result (take (length out.old) out.new ≡ out.old) }
@@ -216,7 +216,7 @@ fn push_first(out: &mut Bytes, r: &Reply) -> Result<(), NoMemory>
 }
 
 /// Appends a reply.
-#[tactic(auto, using(crate::proofs::Fronts::front_of))]
+#[tactic(auto, using(dict_value::proofs::Fronts::front_stays))]
 fn push_reply(out: &mut Bytes, r: &Reply) -> Result<(), NoMemory>
     ensures ok { OnOk result (out.new ≡ out.old ++ reply_text r.now) }
     ensures err { OnErr result (take (length out.old) out.new ≡ out.old) }
