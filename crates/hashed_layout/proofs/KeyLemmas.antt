@@ -6,7 +6,6 @@ use Rattle.std.proofs.lemmas.Bool.{cases_eq, cases_lt, eqb-true}
 use Rattle.std.proofs.lemmas.List.{append_assoc, append_cancel_left, drop_all, length-take-le, take_more_set}
 use Rattle.std.specs.Prelude.{IsTrue, MatchOption, None, Option, Some}
 use denote.Bor.{Bor}
-use Rattle.std.specs.declared.hash.FoldHasher.{FoldHasher}
 use Rattle.hashed_layout.specs.KeyHash.{hashed_on}
 use Rattle.dict_value.specs.declared.value.Value.{Value}
 use Rattle.dict_value.specs.declared.value.Value.TheVariants.{U, I, S, Day, Second, Id, V4, V6, Dec, Null}
@@ -212,6 +211,37 @@ pub value-behind : (bytes head text between : List ℕ) (r : Option (Bor (List �
 value-behind bytes head text between None is missing = λ rest e. missing rest (append_cancel_left head between (text ++ rest) (sym is ∙ e ∙ append_assoc head text rest))
 value-behind bytes head text between (Some x) is found = is ∙ ap (λ l. head ++ l) found ∙ sym (append_assoc head text x.now)
 
+-- ---- the digits that bytes begin with
+
+pub digits-next : (n : ℕ) → n ≢ 0 → digits_of n ≡ n % 256 ∷ digits_of (n / 256)
+digits-next zero some = absurd (some refl)
+digits-next (suc m) some =
+    digits-more m (suc m) some ∙ ap (λ ds. suc m % 256 ∷ ds) (digits-all m (suc m / 256) (quotient-small m (suc m) (power-above (suc m))))
+
+pub no-digits-left : (n : ℕ) → n ≡ 0 → digits_of n ≡ []
+no-digits-left n none = ap digits_of none ∙ digits-zero 0
+
+-- the next byte is the next digit
+pub digit-met : (bytes : List ℕ) (count left : ℕ) → count < length bytes → get_or bytes count 0 ≡ left % 256 → left ≢ 0
+    → (rest : List ℕ) → (drop count bytes ≡ digits_of left ++ rest) ↔ (drop (count + 1) bytes ≡ digits_of (left / 256) ++ rest)
+unfolding tail
+digit-met bytes count left within same some rest =
+    let at : suc count ≡ count + 1 = omega arith in
+    let front : drop count bytes ≡ left % 256 ∷ drop (count + 1) bytes = drop-cons bytes count 0 within ∙ (λ i. same i ∷ drop (at i) bytes) in
+    let digits : digits_of left ++ rest ≡ left % 256 ∷ (digits_of (left / 256) ++ rest) = ap (λ l. l ++ rest) (digits-next left some) in
+    (λ e. ap tail (sym front ∙ e ∙ digits), λ e. front ∙ ap (λ l. left % 256 ∷ l) e ∙ sym digits)
+
+-- there is no next byte, or it isn't the next digit
+pub digit-missed : (bytes : List ℕ) (count left : ℕ) → left ≢ 0 → (count < length bytes → get_or bytes count 0 ≢ left % 256)
+    → (rest : List ℕ) → drop count bytes ≢ digits_of left ++ rest
+unfolding head
+digit-missed bytes count left some other rest e =
+    let digits : digits_of left ++ rest ≡ left % 256 ∷ (digits_of (left / 256) ++ rest) = ap (λ l. l ++ rest) (digits-next left some) in
+    elim (cases_lt count (length bytes)) [
+      | inl within ↦ other within (ap head (sym (drop-cons bytes count 0 within) ∙ e ∙ digits))
+      | inr past ↦ let none = sym (drop_all count bytes past) ∙ e ∙ digits in absurd (cc (none))
+    ]
+
 -- ---- going through a key
 
 drop-at : (key : List Value) (i : ℕ) (v : Value) → i < length key → v ≡ get_or key i v → drop i key ≡ v ∷ drop (i + 1) key
@@ -258,6 +288,6 @@ module _ (bytes : List ℕ) (key : List Value) (i : ℕ) (all : length key ≤ i
     ],
   )
 
--- the hasher behind the last value
-pub hashed-all : (hasher : FoldHasher) (key : List Value) (i : ℕ) → length key ≤ i → hashed_on hasher (drop i key) ≡ hasher
-hashed-all hasher key i all = ap (hashed_on hasher) (drop_all i key all)
+-- the state behind the last value
+pub hashed-all : (state : ℕ) (key : List Value) (i : ℕ) → length key ≤ i → hashed_on state (drop i key) ≡ state
+hashed-all state key i all = ap (hashed_on state) (drop_all i key all)

@@ -1,9 +1,11 @@
 // Rows by a key list.
-ghost use Rattle.std.specs.Prelude.{◌≡◌, ◌↔◌, ◌+◌, ◌*◌, ◌<◌, ◌≤◌, ◌^◌, ℕ, List, IfOk, IfSome, IsTrue, OnOk, length};
+ghost use Rattle.std.specs.Prelude.{◌≡◌, ◌↔◌, ◌+◌, ◌*◌, ◌/◌, ◌%◌, ◌<◌, ◌≤◌, ◌^◌, ℕ, List};
+ghost use Rattle.std.specs.Prelude.{IfOk, IfSome, IsTrue, OnOk, length};
 ghost use Rattle.dict_value.specs.FindByKey.{FindsByKey, HasKeyAt};
 ghost use Rattle.dict_value.specs.declared.value.TheConstants.{MOST_ROWS};
 ghost use Rattle.dict_value.specs.declared.value.Value.{Value};
-ghost use Rattle.hashed_layout.specs.KeyTables.{IsKeyTableOf, key_home, start_of};
+ghost use Rattle.hashed_layout.specs.KeyHash.{hash_of};
+ghost use Rattle.hashed_layout.specs.KeyTables.{IsKeyTableOf, key_home, number_in, start_of, tag_in, tag_of};
 ghost use Rattle.hashed_layout.specs.steps.KeyFilling.{IsKeyTableTo, StopsAt, TellsKey};
 
 use crate::key_bytes::{begins_with_key, hash_of, push_key, room_for};
@@ -19,8 +21,9 @@ struct Entry {
     place: u32,
 }
 
-/// The least place of each key list: the distinct keys in one byte store, and a table of two numbers of
-/// keys for a row.
+/// The least place of each key list: the distinct keys in one byte store, and a table of two cells for a
+/// row. A taken cell has the number of a key, which counts from 1 and takes 23 bits, and above it nine bits of
+/// the key's hash as a tag, so that cells with other keys are mostly passed without reading an entry.
 #[derive(Drop)]
 pub struct Complex {
     bytes: Bytes,
@@ -37,23 +40,61 @@ fn start_of(entry: &Entry) -> u64
     (u64::from(entry.high) << 32) + u64::from(entry.low)
 }
 
-/// The cell where the probes of a key begin.
+/// The number of the key that a cell holds, or 0 where the cell is free.
 #[inline(always)]
-fn key_home(size: usize, key: &KeyList) -> usize
-    requires size { size < 2 ^ 24 }
-    ensures value { result ≡ key_home size key.now }
-    ensures within { 0 < size → result < size }
+fn number_in(cell: u32) -> u32
+    ensures { result ≡ number_in cell }
 {
-    home_at(size, hash_of(key))
+    cell % (1 << 23)
 }
 
-/// Whether the key of this number, which counts from 1, is this one.
+/// The tag of a cell.
 #[inline(always)]
-fn tells_key(entries: &[Entry], bytes: &[u8], key: &KeyList, number: u32) -> bool
-    requires { 0 < number }
-    ensures { IsTrue result ↔ TellsKey entries.now bytes.now key.now number }
+fn tag_in(cell: u32) -> u32
+    ensures { result ≡ tag_in cell }
 {
-    let Some(entry) = entries.get((number - 1) as usize) else {
+    cell >> 23
+}
+
+/// The tag of a key that is hashed to this number.
+#[inline(always)]
+fn tag_of(bits: u64) -> u32
+    ensures { result ≡ bits % 2 ^ 32 / 2 ^ 23 }
+{
+    (bits % (1 << 32)) as u32 >> 23
+}
+
+/// The cell with a tag and a number.
+fn cell_of(tag: u32, number: u32) -> u32
+    requires tag { tag < 2 ^ 9 }
+    requires number { number < 2 ^ 23 }
+    ensures number { number_in result ≡ number }
+    ensures tag { tag_in result ≡ tag }
+{
+    tag * (1 << 23) + number
+}
+
+/// The cell where the probes of a key that is hashed to this number begin.
+#[inline(always)]
+fn key_home(size: usize, bits: u64) -> usize
+    requires size { size < 2 ^ 24 }
+    ensures value { (key : List Value) → bits ≡ hash_of key → result ≡ key_home size key }
+    ensures within { 0 < size → result < size }
+{
+    home_at(size, bits)
+}
+
+/// Whether a taken cell has this key, whose tag is given.
+#[inline(always)]
+fn tells_key(entries: &[Entry], bytes: &[u8], key: &KeyList, tag: u32, cell: u32) -> bool
+    requires tag { tag ≡ tag_of key.now }
+    requires taken { 0 < number_in cell }
+    ensures { IsTrue result ↔ TellsKey entries.now bytes.now key.now cell }
+{
+    if tag_in(cell) != tag {
+        return false;
+    }
+    let Some(entry) = entries.get((number_in(cell) - 1) as usize) else {
         return false;
     };
     let start = start_of(entry) as usize;
@@ -64,18 +105,20 @@ fn tells_key(entries: &[Entry], bytes: &[u8], key: &KeyList, number: u32) -> boo
 }
 
 /// The cell where the probes of a key end, which is free or has the key; none where each cell has another.
-fn seek(entries: &[Entry], bytes: &[u8], cells: &[u32], key: &KeyList) -> Option<usize>
-    requires { length cells.now < 2 ^ 24 }
+fn seek(entries: &[Entry], bytes: &[u8], cells: &[u32], key: &KeyList, bits: u64) -> Option<usize>
+    requires small { length cells.now < 2 ^ 24 }
+    requires bits { bits ≡ hash_of key.now }
     ensures within { IfSome result (λ at. at < length cells.now) }
     ensures home { 0 < length cells.now → key_home (length cells.now) key.now < length cells.now }
     ensures ends { StopsAt entries.now bytes.now cells.now key.now result }
 {
     let size = cells.len();
-    let home = key_home(size, key);
+    let home = key_home(size, bits);
+    let tag = tag_of(bits);
     for probe in 0..size {
         let at = probed(size, home, probe);
-        let number = cells[at];
-        if number == 0 || tells_key(entries, bytes, key, number) {
+        let cell = cells[at];
+        if number_in(cell) == 0 || tells_key(entries, bytes, key, tag, cell) {
             return Some(at);
         }
     }
@@ -99,10 +142,17 @@ fn put(
     ensures len { length cells.new.items ≡ length cells.old.items }
 {
     let key = &keys[row];
-    let Some(at) = seek(entries.as_slice(), bytes.as_slice(), cells.as_slice(), key) else {
+    let bits = hash_of(key);
+    let Some(at) = seek(
+        entries.as_slice(),
+        bytes.as_slice(),
+        cells.as_slice(),
+        key,
+        bits,
+    ) else {
         unreachable!()
     };
-    if cells[at] != 0 {
+    if number_in(cells[at]) != 0 {
         return Ok(());
     }
     let start = bytes.len();
@@ -113,7 +163,7 @@ fn put(
     };
     entries.push(entry)?;
     push_key(bytes, key)?;
-    cells[at] = entries.len() as u32;
+    cells[at] = cell_of(tag_of(bits), entries.len() as u32);
     Ok(())
 }
 
@@ -149,8 +199,9 @@ impl Complex {
             self.bytes.as_slice(),
             self.cells.as_slice(),
             key,
+            hash_of(key),
         )?;
-        let number = self.cells[at];
+        let number = number_in(self.cells[at]);
         if number == 0 {
             return None;
         }

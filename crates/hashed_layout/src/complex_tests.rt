@@ -1,5 +1,6 @@
 // Keys of several values.
 use crate::Complex;
+use crate::hashed_tests::{ALIKE, Family, member};
 use dict_value::{Bytes, KeyList, ListOf, MOST_ROWS, Value};
 use std::alloc::Global;
 use std::test::Fail;
@@ -116,12 +117,30 @@ fn numbered(alloc: Global, number: u32) -> Result<KeyList, Fail> {
     Ok(key)
 }
 
+/// What keys are made of.
+#[derive(Clone, Copy)]
+enum Form {
+    Digits,
+    /// A member of a family, behind the same number in each key.
+    Members(Family),
+}
+
+fn key_in(alloc: Global, form: Form, number: u32) -> Result<KeyList, Fail> {
+    match form {
+        Form::Digits => numbered(alloc, number),
+        Form::Members(family) => key_of(
+            alloc,
+            &[Part::Number(77), Part::Number(member(family, number))],
+        ),
+    }
+}
+
 /// Whether each of so many keys is found at its place, and as many others nowhere. The finds would take
 /// hours if one scanned the rows.
-fn finds_each(alloc: Global, count: u32) -> Result<bool, Fail> {
+fn finds_each(alloc: Global, form: Form, count: u32) -> Result<bool, Fail> {
     let mut keys = Vec::with_capacity(alloc, count as usize)?;
     for row in 0..count {
-        keys.push(numbered(alloc, row)?)?;
+        keys.push(key_in(alloc, form, row)?)?;
     }
     if keys.len() > MOST_ROWS {
         return Ok(false);
@@ -133,7 +152,7 @@ fn finds_each(alloc: Global, count: u32) -> Result<bool, Fail> {
         }
     }
     for row in 0..count {
-        if table.has(&numbered(alloc, row.wrapping_add(count))?) {
+        if table.has(&key_in(alloc, form, row.wrapping_add(count))?) {
             return Ok(false);
         }
     }
@@ -142,6 +161,14 @@ fn finds_each(alloc: Global, count: u32) -> Result<bool, Fail> {
 
 #[test]
 fn many_keys(rt: HostRuntime) -> Result<(), Fail> {
-    assert!(rt; finds_each(rt.alloc(), 1_000_000)?);
+    assert!(rt; finds_each(rt.alloc(), Form::Digits, 1_000_000)?);
+    Ok(())
+}
+
+#[test]
+fn families(rt: HostRuntime) -> Result<(), Fail> {
+    for family in &ALIKE {
+        assert!(rt; finds_each(rt.alloc(), Form::Members(*family), 1_000_000)?);
+    }
     Ok(())
 }

@@ -35,7 +35,7 @@ fn few_keys(rt: HostRuntime) -> Result<(), Fail> {
 
 /// Families of keys that are alike in some bits.
 #[derive(Clone, Copy)]
-enum Family {
+pub(crate) enum Family {
     Consecutive,
     EqualLowHalves,
     EqualHighHalves,
@@ -45,7 +45,7 @@ enum Family {
 }
 
 /// A member of a family; two numbers below 2 ^ 24 give two members.
-fn member(family: Family, number: u32) -> u64 {
+pub(crate) fn member(family: Family, number: u32) -> u64 {
     let number = u64::from(number);
     match family {
         Family::Consecutive => number,
@@ -77,16 +77,19 @@ fn finds_each(alloc: Global, family: Family, count: u32) -> Result<bool, Fail> {
     Ok(true)
 }
 
+/// The families that are chosen to collide.
+pub(crate) static ALIKE: [Family; 5] = [
+    Family::Consecutive,
+    Family::EqualLowHalves,
+    Family::EqualHighHalves,
+    Family::MultiplesOfAPower,
+    Family::ReversedBits,
+];
+
 #[test]
 fn families(rt: HostRuntime) -> Result<(), Fail> {
-    for family in [
-        Family::Consecutive,
-        Family::EqualLowHalves,
-        Family::EqualHighHalves,
-        Family::MultiplesOfAPower,
-        Family::ReversedBits,
-    ] {
-        assert!(rt; finds_each(rt.alloc(), family, 1_000_000)?);
+    for family in &ALIKE {
+        assert!(rt; finds_each(rt.alloc(), *family, 1_000_000)?);
     }
     Ok(())
 }

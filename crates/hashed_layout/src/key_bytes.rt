@@ -1,14 +1,22 @@
 // The bytes of key lists, compared and hashed without being written down.
-ghost use Rattle.std.specs.Prelude.{◌≡◌, ◌≢◌, ◌≤◌, ◌↔◌, ◌∷◌, ◌++◌, ℕ, List, length, take, IsTrue, MatchOption, OnOk};
-ghost use Rattle.hashed_layout.specs.KeyBytes.{BeginsWithKey, digits_to, head_bytes, key_bytes, kind_of, number_of};
-ghost use Rattle.hashed_layout.specs.KeyBytes.{string_of, value_bytes};
-ghost use Rattle.hashed_layout.specs.KeyHash.{hash_of};
+ghost use Rattle.std.specs.Prelude.{◌≡◌, ◌≢◌, ◌≤◌, ◌↔◌, ◌∷◌, ◌++◌, ℕ, List, drop, length, take};
+ghost use Rattle.std.specs.Prelude.{IsTrue, MatchOption, OnOk};
+ghost use Rattle.hashed_layout.specs.KeyBytes.{BeginsWithKey, digits_of, digits_to, head_bytes, key_bytes, kind_of};
+ghost use Rattle.hashed_layout.specs.KeyBytes.{number_of, string_of, value_bytes};
+ghost use Rattle.hashed_layout.specs.KeyHash.{bits_of, folded, hash_of, text_bits};
 
+use crate::probing::mixed;
 use dict_value::{Bytes, KeyList, NoMemory, Value};
 use std::hash::{FoldHasher, Hasher};
 
 /// The byte behind the last value of a key list. No kind of value has this number.
 pub(crate) const END_MARK: u8 = 255;
+
+/// The bits that stand for NULL in a hash: any would do.
+pub(crate) const NULL_BITS: u64 = 0x9e37_79b9_7f4a_7c15;
+
+/// The bits that a hash begins with: any would do.
+pub(crate) const SEED: u64 = 0x243f_6a88_85a3_08d3;
 
 /// The greatest number of digits of a value's number.
 const MOST_DIGITS: usize = 16;
@@ -87,16 +95,62 @@ fn behind<'a>(bytes: &'a [u8], piece: &[u8]) -> Option<&'a [u8]>
     bytes.strip_prefix(piece)
 }
 
+/// How many digits a number has, where bytes begin with them.
+#[inline(always)]
+fn digits_met(bytes: &[u8], number: u128) -> Option<usize>
+    ensures { MatchOption result ((rest : List ℕ) → bytes.now ≢ digits_of number ++ rest)
+        (λ count. (count ≡ length (digits_of number)) × (bytes.now ≡ digits_of number ++ drop count bytes.now)) }
+{
+    let mut left = number;
+    let mut count = 0;
+    while left > 0 {
+        if count >= bytes.len() || bytes[count] != (left % 256) as u8 {
+            return None;
+        }
+        left /= 256;
+        count += 1;
+    }
+    Some(count)
+}
+
+/// What follows the head of a value that bytes begin with.
+#[inline(always)]
+fn behind_head<'a>(bytes: &'a [u8], value: &Value) -> Option<&'a [u8]>
+    ensures { MatchOption result ((rest : List ℕ) → bytes.now ≢ head_bytes value.now ++ rest)
+        (λ rest. bytes.now ≡ head_bytes value.now ++ rest.now) }
+{
+    let (kind, number) = kind_and_number(value);
+    if bytes.len() < 2 || bytes[0] != kind {
+        return None;
+    }
+    let digits = &bytes[2..];
+    match digits_met(digits, number) {
+        Some(count) if bytes[1] as usize == count => Some(&digits[count..]),
+        _ => None,
+    }
+}
+
+/// What follows the text of a value that bytes begin with.
+#[inline(always)]
+fn behind_string<'a>(bytes: &'a [u8], value: &Value) -> Option<&'a [u8]>
+    ensures { MatchOption result ((rest : List ℕ) → bytes.now ≢ string_of value.now ++ rest)
+        (λ rest. bytes.now ≡ string_of value.now ++ rest.now) }
+{
+    match value {
+        Value::S(text) => behind(bytes, text.as_slice()),
+        _ => Some(bytes),
+    }
+}
+
 /// What follows the bytes of a value that bytes begin with.
 fn behind_value<'a>(bytes: &'a [u8], value: &Value) -> Option<&'a [u8]>
     ensures { MatchOption result ((rest : List ℕ) → bytes.now ≢ value_bytes value.now ++ rest)
         (λ rest. bytes.now ≡ value_bytes value.now ++ rest.now) }
 {
-    let head = head_of(value);
-    let Some(rest) = behind(bytes, &head.bytes[..head.len]) else {
+    let Some(rest) = behind_head(bytes, value) else {
         return None;
     };
-    behind(rest, string_of(value))
+    behind_string(rest, value)
 }
 
 /// Whether bytes begin with those of a key list.
@@ -125,17 +179,51 @@ pub(crate) fn push_key(out: &mut Bytes, key: &KeyList) -> Result<(), NoMemory>
     out.push(END_MARK)
 }
 
+/// 64 bits of a number of 128.
+fn folded(number: u128) -> u64
+    ensures { result ≡ folded number }
+{
+    (number % (1 << 64)) as u64 ^ mixed((number >> 64) as u64)
+}
+
+/// 64 bits of a text.
+#[inline(always)]
+fn text_bits(text: &[u8]) -> u64
+    ensures { result ≡ text_bits text.now }
+{
+    let mut hasher = FoldHasher::default();
+    hasher.write(text);
+    hasher.finish()
+}
+
+/// 64 bits of a value.
+#[inline(always)]
+fn bits_of(value: &Value) -> u64
+    ensures { result ≡ bits_of value.now }
+{
+    match value {
+        Value::Null => NULL_BITS,
+        Value::U(n) => *n,
+        Value::I(z) => z.cast_unsigned(),
+        Value::S(text) => text_bits(text.as_slice()),
+        Value::Day(n) => u64::from(*n),
+        Value::Second(n) => u64::from(*n),
+        Value::Id(n) => folded(*n),
+        Value::V4(n) => u64::from(*n),
+        Value::V6(n) => folded(*n),
+        Value::Dec(z) => folded(z.cast_unsigned()),
+    }
+}
+
 /// The number that a key list is hashed to.
 pub(crate) fn hash_of(key: &KeyList) -> u64
     ensures { result ≡ hash_of key.now }
 {
-    let mut hasher = FoldHasher::default();
+    let mut state = SEED;
     for value in key.as_slice() {
-        let head = head_of(value);
-        hasher.write(&head.bytes[..head.len]);
-        hasher.write(string_of(value));
+        state = mixed(state ^ bits_of(value));
     }
-    hasher.finish()
+    state
 }
 
 /// About how many bytes key lists have, so that they are stored without growing; any number would do.

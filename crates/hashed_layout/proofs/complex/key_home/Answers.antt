@@ -5,4 +5,4 @@ use Rattle.hashed_layout.proofs.complex.key_home.Goals as goal
 
 pub returns-clause-value : goal.returns-clause-value
 unfolding key_home
-returns-clause-value c = c.home_at.ensures.value ∙ ap (λ m. part_of c.args.size (m / 2 ^ 32)) c.hash_of.ensures
+returns-clause-value c = λ key is. c.home_at.ensures.value ∙ ap (λ m. part_of c.args.size (m / 2 ^ 32)) is

@@ -1,6 +1,5 @@
--- Behind the last value the hasher is that of the key.
+-- Behind the last value the state is that of the key.
 use Rattle.std.proofs.Common.{◌∙◌, ap, arith, length, sym}
-use Rattle.std.specs.declared.hash.FoldHasher.{FoldHasher}
 use Rattle.hashed_layout.specs.KeyHash.{hash_of}
 use Rattle.hashed_layout.proofs.KeyLemmas.{hashed-all}
 use Rattle.hashed_layout.proofs.key_bytes.hash_of.Goals as goal
@@ -10,4 +9,4 @@ unfolding hash_of
 returns c =
     let key = c.args.key.now in
     let len = ap length c.as_slice-value-items.ensures in
-    c.finish.ensures ∙ ap (λ (h : FoldHasher). h.state) (sym (hashed-all c.loop-value.hasher key c.loop-value.value-index (omega (arith, len))) ∙ c.loop-value.invariant)
+    sym (hashed-all c.loop-value.state key c.loop-value.value-index (omega (arith, len))) ∙ c.loop-value.invariant
