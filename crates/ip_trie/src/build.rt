@@ -10,6 +10,7 @@ ghost use Rattle.ip_trie.specs.Kept.{AreCellsOf, AreLeavesOf, IsFilled};
 ghost use Rattle.ip_trie.specs.steps.Growing.{AreBettered, Grows, IsBettered, IsGrown};
 
 use crate::cells::{BLANK, Cell, Leaf, TABLE, better, digit_of, leaf_of};
+use crate::prune::{cut_all, rows_below};
 use crate::trie::TrieFault;
 use dict_value::{Bytes, NoMemory, read_prefix};
 use std::alloc::Global;
@@ -47,7 +48,7 @@ fn has_family(leaves: &[Leaf], v6: bool) -> bool
 }
 
 /// The level at whose cells a prefix ends.
-fn level_of(len: u8) -> u32
+pub(crate) fn level_of(len: u8) -> u32
     requires { len ≤ 128 }
     ensures is { result ≡ level_of len }
     ensures within { result < 32 }
@@ -227,5 +228,7 @@ pub(crate) fn cells_of(alloc: Global, leaves: &[Leaf], v6: bool) -> Result<Vec<C
         put(&mut cells, leaves, v6, row)?;
     }
     fill_table(&mut cells);
+    let below = rows_below(alloc, cells.as_slice(), leaves, v6)?;
+    cut_all(&mut cells, below.as_slice());
     Ok(cells)
 }

@@ -8,6 +8,7 @@
 
 mod build;
 mod cells;
+mod prune;
 #[cfg(test)]
 mod tests;
 mod trie;
