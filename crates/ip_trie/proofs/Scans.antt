@@ -41,10 +41,6 @@ module _ (leaves : List Leaf) (v6 : Bool) (cells : List Cell) (sound : AreLeaves
 pub cell-read : (cells : List Cell) (i : ℕ) (cell : Cell) → slice_get cells i ≡ Some cell → get_or cells i blank ≡ cell
 cell-read cells i cell read = get_or_from_slice_get cells i cell blank read
 
-pub filled-of : (leaves : List Leaf) (v6 : Bool) (cells : List Cell) → cells ≢ [] → AreCellsOf leaves v6 cells → IsFilled leaves v6 cells
-filled-of leaves v6 cells some (inl none) = absurd (some none.0)
-filled-of leaves v6 cells some (inr filled) = filled
-
 -- ---- the table
 
 -- the cells of a table, and a trie as it was
@@ -163,12 +159,6 @@ closed-trie leaves v6 n cells t = record {
   size = λ some. t.size;
   nexts = λ i some. (t.nexts i (λ z. omega (arith, z, some))).2;
 }
-
-pub closed-none : (cells : List Cell) → cells ≡ [] → IsClosed cells
-closed-none cells none = subst IsClosed (sym none) (record {
-  size = λ some. absurd (omega (arith, some));
-  nexts = λ i some. let z = next-past [] i (omega arith) in absurd (omega (arith, z, some));
-})
 
 -- a node that was read is shared
 pub next-shared : (leaves : List Leaf) (v6 : Bool) (n : ℕ) (cells : List Cell) → IsTrie leaves v6 n cells → (bits level : ℕ) → bits < 2 ^ 128 → 0 < level → level < 32 → node cells bits level ≢ 0 → Shares leaves v6 bits (4 * (level + 1 - 1))

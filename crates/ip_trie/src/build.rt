@@ -1,6 +1,7 @@
 // How a trie is built: row by row, and then its table.
 ghost use Rattle.std.specs.Prelude.{◌≡◌, ◌≢◌, ◌↔◌, ◌⊎◌, ◌+◌, ◌-◌, ◌*◌, ◌<◌, ◌≤◌, ◌^◌, ℕ, Bool, List, Err, IfOk, IsTrue, length};
 ghost use Rattle.dict_value.specs.declared.value.TheConstants.{MOST_ROWS};
+ghost use Rattle.ip_trie.specs.Below.{IsSafe};
 ghost use Rattle.ip_trie.specs.Cells.{AreLeaves, EndsAbove, IsClosed, IsIn, IsTrie, TellsBest, leaf_at, level_of};
 ghost use Rattle.ip_trie.specs.Cells.{next_at, node, row_at};
 ghost use Rattle.ip_trie.specs.FindByAddress.{IsFirstBad};
@@ -218,7 +219,7 @@ pub(crate) fn cells_of(alloc: Global, leaves: &[Leaf], v6: bool) -> Result<Vec<C
     requires leaves { AreLeaves leaves.now }
     requires rows { length leaves.now ≤ MOST_ROWS }
     ensures cells { IfOk result (λ cells. AreCellsOf leaves.now v6 cells.items) }
-    ensures closed { IfOk result (λ cells. IsClosed cells.items) }
+    ensures safe { IfOk result (λ cells. IsSafe (length leaves.now) cells.items) }
 {
     if !has_family(leaves, v6) {
         return Ok(Vec::new(alloc));

@@ -1,13 +1,13 @@
 // The tries of both families, and the search in them.
-ghost use Rattle.std.specs.Prelude.{◌≡◌, ◌≢◌, ◌+◌, ◌-◌, ◌≤◌, ◌⊎◌, ℕ, Bool, List, All, None, Some, Err, IfErr, IfOk, IsSome};
+ghost use Rattle.std.specs.Prelude.{◌≡◌, ◌≢◌, ◌+◌, ◌-◌, ◌<◌, ◌≤◌, ◌⊎◌, ℕ, Bool, List, All, None, Some, Err, IfErr, IfOk, IsSome};
 ghost use Rattle.std.specs.Prelude.{OnOk, length};
 ghost use Rattle.dict_value.specs.Addresses.{prefix_in};
 ghost use Rattle.dict_value.specs.Memory.{UnlessNoMemory};
 ghost use Rattle.dict_value.specs.declared.value.TheConstants.{MOST_ROWS};
-ghost use Rattle.ip_trie.specs.Cells.{AreLeaves, Has, IsClosed, Shares, TellsBest};
+ghost use Rattle.ip_trie.specs.Below.{IsLastOf, IsSafe};
+ghost use Rattle.ip_trie.specs.Cells.{AreLeaves, Has, Shares, TellsBest, leaf_at};
 ghost use Rattle.ip_trie.specs.FindByAddress.{FindsByAddress, HasInCommon, IsRefusedFor};
 ghost use Rattle.ip_trie.specs.Kept.{AreCellsOf, AreTriesOf};
-ghost use Rattle.ip_trie.specs.declared.cells.Leaf.{Leaf};
 ghost use Rattle.ip_trie.specs.declared.trie.TrieFault.TheVariants as fault;
 
 use crate::build::{cells_of, leaves_of};
@@ -66,11 +66,12 @@ fn found_in<S: Counter>(
     bits: u128,
     steps: &mut S,
 ) -> u32
-    requires { IsClosed cells.now }
-    ensures found { (leaves : List Leaf) (v6 : Bool) → AreLeaves leaves
-        → AreCellsOf leaves v6 cells.now → TellsBest leaves (Has leaves v6 bits) result }
-    ensures steps { (leaves : List Leaf) (v6 : Bool) → AreLeaves leaves
-        → AreCellsOf leaves v6 cells.now → (count : ℕ) × ((count ≡ 0) ⊎ Shares leaves v6 bits count)
+    requires leaves { AreLeaves leaves.now }
+    requires rows { length leaves.now ≤ MOST_ROWS }
+    requires safe { IsSafe (length leaves.now) cells.now }
+    ensures found { (v6 : Bool) → AreCellsOf leaves.now v6 cells.now → TellsBest leaves.now (Has leaves.now v6 bits) result }
+    ensures steps { (v6 : Bool) → AreCellsOf leaves.now v6 cells.now
+        → (count : ℕ) × ((count ≡ 0) ⊎ Shares leaves.now v6 bits count)
         × (S.amount steps.new ≤ S.amount steps.old + (count + 1)) }
 {
     if cells.is_empty() {
