@@ -76,4 +76,4 @@ module _ (leaves : List Leaf) (v6 : Bool) (cells : List Cell) (row : ℕ) where
     where
       here : (i : ℕ) → LiesBelow leaves v6 cells i row → AllowsFor below i row
       here i (inside, inl (deep, is)) = subst (λ k. AllowsFor below k row) (sym is) b.bucket
-      here i (inside, inr (level, low, short, is)) = subst (λ k. AllowsFor below k row) (sym is) (b.way level low short)
+      here i (inside, inr (level, (low, short, is))) = subst (λ k. AllowsFor below k row) (sym is) (b.way level low short)

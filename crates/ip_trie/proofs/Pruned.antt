@@ -121,7 +121,7 @@ module _ (leaves : List Leaf) (v6 : Bool) (whole : List Cell) (sound : AreLeaves
     where
       deep : PassesBucket leaves row i ⊎ ((level : ℕ) × PassesCell leaves whole row i level) → 4 ≤ level_of (leaf_at leaves row).len
       deep (inl bucket) = bucket.0
-      deep (inr (level, from, short, here)) = omega (arith, from, short)
+      deep (inr (level, (from, short, here))) = omega (arith, from, short)
 
   -- behind a cell of a level
   pub follows-cell : (level i next : ℕ) → 4 ≤ level → level < 32 → node whole bits level ≢ 0 → node whole bits level + digit level bits ≡ i → IsPrunedNext leaves v6 whole i next → Follows leaves v6 whole bits (level + 1) next
@@ -163,7 +163,7 @@ module _ (leaves : List Leaf) (v6 : Bool) (whole : List Cell) (sound : AreLeaves
           let s = sound.small row in
           let first : top 16 (leaf_at leaves row).bits < 65536 = omega (arith, s) in
           absurd (omega (arith, far, b, first, at))
-      deep (inr (other, from, short, here)) =
+      deep (inr (other, (from, short, here))) =
           let below : other < 32 = let n = sound.len row in omega (arith, n, short) in
           let some_row = t.paths row other lies.0.0 lies.0 (omega (arith, short)) in
           let q = one-way leaves v6 (length leaves) sound whole whole t bits (leaf_at leaves row).bits level other small (sound.small row) l below there some_row (at ∙ here) in
