@@ -139,14 +139,12 @@ module _ (leaves : List Leaf) (v6 : Bool) (whole : List Cell) (sound : AreLeaves
           level,
           (
             low,
-            (
-              omega (arith, le),
-              let tops = has-top other (level + 1) has le in
-              let above = has-top other level has (omega (arith, le)) in
-              let nodes = node-agree whole bits (leaf_at leaves other).bits level (omega (arith, l)) (sym above) in
-              let digits = same-digit level bits (leaf_at leaves other).bits l (sym tops) in
-              omega (arith, at, nodes, digits),
-            ),
+            omega (arith, le),
+            let tops = has-top other (level + 1) has le in
+            let above = has-top other level has (omega (arith, le)) in
+            let nodes = node-agree whole bits (leaf_at leaves other).bits level (omega (arith, l)) (sym above) in
+            let digits = same-digit level bits (leaf_at leaves other).bits l (sym tops) in
+            omega (arith, at, nodes, digits),
           ),
         ),
       );
