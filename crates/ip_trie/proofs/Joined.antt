@@ -1,5 +1,5 @@
 -- What is said of the cells after one row more.
-use Rattle.std.proofs.Common.{◌≡◌, ◌≢◌, ◌⊎◌, Bool, ℕ, ◌+◌, ◌<◌, ◌≤◌, List, length, inl, inr, refl, arith, sym, ◌∙◌, ap, subst}
+use Rattle.std.proofs.Common.{◌≡◌, ◌≢◌, Bool, ℕ, ◌+◌, ◌<◌, ◌≤◌, List, length, inl, inr, arith, sym, ◌∙◌, subst}
 use Rattle.std.proofs.lemmas.Bool.{cases_eq}
 use Rattle.ip_trie.specs.Cells.{IsIn, digit, leaf_at, level_of, node, top}
 use Rattle.ip_trie.specs.Below.{AllowsFor, AreBelow, Joins, LiesBelow, one_below}

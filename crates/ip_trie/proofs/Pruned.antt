@@ -1,9 +1,9 @@
 -- The search among cells with rows in place of nodes.
-use Rattle.std.proofs.Common.{◌≡◌, ◌≢◌, ◌⊎◌, Bool, ℕ, ◌+◌, ◌-◌, ◌*◌, ◌%◌, ◌^◌, ◌<◌, ◌≤◌, List, [], length, get_or, inl, inr, refl, arith, sym, ◌∙◌, ap, subst}
+use Rattle.std.proofs.Common.{◌≡◌, ◌≢◌, ◌⊎◌, Bool, ℕ, ◌+◌, ◌-◌, ◌*◌, ◌%◌, ◌^◌, ◌<◌, ◌≤◌, List, [], length, inl, inr, refl, arith, sym, ◌∙◌, ap, subst}
 use Rattle.std.proofs.lemmas.Bool.{cases_eq, cases_lt}
 use Rattle.dict_value.specs.declared.value.TheConstants.{MOST_ROWS}
-use Rattle.ip_trie.specs.Cells.{AreLeaves, EndsAbove, Has, IsIn, IsTrie, TellsBest, blank, digit, leaf_at, level_of, next_at, node, row_at, top}
-use Rattle.ip_trie.specs.Below.{AreBelow, AreCut, IsLastOf, IsPruned, IsPrunedNext, IsSafe, LiesBelow, PassesBucket, PassesCell, next_of_row, one_below}
+use Rattle.ip_trie.specs.Cells.{AreLeaves, EndsAbove, Has, IsIn, IsTrie, TellsBest, digit, leaf_at, level_of, next_at, node, top}
+use Rattle.ip_trie.specs.Below.{AreBelow, AreCut, IsLastOf, IsPruned, IsPrunedNext, IsSafe, PassesBucket, PassesCell, next_of_row, one_below}
 use Rattle.ip_trie.specs.Kept.{AreCellsOf, IsFilled}
 use Rattle.ip_trie.specs.declared.cells.Cell.{Cell}
 use Rattle.ip_trie.specs.declared.cells.Leaf.{Leaf}
@@ -141,10 +141,10 @@ module _ (leaves : List Leaf) (v6 : Bool) (whole : List Cell) (sound : AreLeaves
             low,
             omega (arith, le),
             let tops = has-top other (level + 1) has le in
-            let above = has-top other level has (omega (arith, le)) in
-            let nodes = node-agree whole bits (leaf_at leaves other).bits level (omega (arith, l)) (sym above) in
-            let digits = same-digit level bits (leaf_at leaves other).bits l (sym tops) in
-            omega (arith, at, nodes, digits),
+                let above = has-top other level has (omega (arith, le)) in
+                let nodes = node-agree whole bits (leaf_at leaves other).bits level (omega (arith, l)) (sym above) in
+                let digits = same-digit level bits (leaf_at leaves other).bits l (sym tops) in
+                omega (arith, at, nodes, digits),
           ),
         ),
       );

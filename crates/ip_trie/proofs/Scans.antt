@@ -1,15 +1,14 @@
 -- The search in a trie.
-use Rattle.std.proofs.Common.{◌≡◌, ◌≢◌, ◌⊎◌, Bool, ℕ, zero, suc, ◌+◌, ◌-◌, ◌*◌, ◌^◌, ◌<◌, ◌≤◌, List, [], length, get_or, set, Some, inl, inr, refl, arith, sym, ◌∙◌, ap, subst, get_or-set_same, get_or-set_other, length-set}
+use Rattle.std.proofs.Common.{◌≡◌, ◌≢◌, ◌⊎◌, Bool, ℕ, zero, suc, ◌+◌, ◌-◌, ◌*◌, ◌^◌, ◌<◌, ◌≤◌, List, length, get_or, set, Some, inl, inr, refl, arith, sym, ◌∙◌, ap, subst, get_or-set_same, get_or-set_other, length-set}
 use Rattle.std.specs.List.{slice_get}
 use Rattle.std.proofs.lemmas.Bool.{cases_eq, cases_lt}
 use Rattle.std.proofs.lemmas.Option.{get_or_from_slice_get}
 use Rattle.ip_trie.specs.Cells.{AreLeaves, EndsAbove, EndsAt, Has, IsClosed, IsBucket, IsTrie, Shares, TellsBest, blank, digit, leaf_at, level_of, next_at, node, row_at, top}
-use Rattle.ip_trie.specs.Kept.{AreCellsOf, IsFilled}
 use Rattle.ip_trie.specs.declared.cells.Cell.{Cell}
 use Rattle.ip_trie.specs.declared.cells.Leaf.{Leaf}
 use Rattle.ip_trie.specs.declared.cells.TheConstants.{TABLE}
 use Rattle.ip_trie.proofs.Bits.{level-least, level-most, level-within, same-top, top-none}
-use Rattle.ip_trie.proofs.Nodes.{next-past, node-agree, node-next, node-same, node-sound, node-up}
+use Rattle.ip_trie.proofs.Nodes.{node-agree, node-next, node-same, node-sound, node-up}
 use Rattle.ip_trie.proofs.Tells.{tells-by, tells-level}
 
 module _ (leaves : List Leaf) (v6 : Bool) (cells : List Cell) (sound : AreLeaves leaves) (t : IsTrie leaves v6 (length leaves) cells) (bits : ℕ) (small : bits < 2 ^ 128) where

@@ -19,7 +19,11 @@ fn join(below: &mut Vec<u32>, at: usize, row: usize)
     requires row { row < MOST_ROWS }
     ensures { Joins at row below.old.items below.new.items }
 {
-    below[at] = if below[at] == 0 { (row + 1) as u32 } else { MANY };
+    below[at] = if below[at] == 0 {
+        (row + 1) as u32
+    } else {
+        MANY
+    };
 }
 
 /// Says of the cells on a row's way that the row lies below them.

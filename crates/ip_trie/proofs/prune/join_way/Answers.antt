@@ -1,5 +1,5 @@
 -- The cell of the table, and a cell of each level.
-use Rattle.std.proofs.Common.{◌≡◌, ◌≢◌, ◌+◌, ◌-◌, ◌*◌, ◌%◌, ◌<◌, ◌≤◌, ◌^◌, ℕ, List, length, arith, subst, sym, ap, ◌∙◌}
+use Rattle.std.proofs.Common.{◌≡◌, ◌≢◌, ◌+◌, ◌<◌, ◌≤◌, arith, subst, sym, ap, ◌∙◌}
 use Rattle.ip_trie.specs.Cells.{IsIn, digit, leaf_at, level_of, next_at, no_leaf, node, top}
 use Rattle.ip_trie.specs.declared.cells.Leaf.{Leaf}
 use Rattle.ip_trie.proofs.Joined.{AreJoined, bucket-joined, level-joined, way-joined}

@@ -1,8 +1,6 @@
 -- The row is joined so far.
-use Rattle.std.proofs.Common.{◌≡◌, ◌≢◌, ◌+◌, ◌<◌, ◌≤◌, ℕ, length}
-use Rattle.ip_trie.specs.Cells.{digit, leaf_at, node}
-use Rattle.ip_trie.specs.Below.{AllowsFor, AreBelow, LiesBelow, one_below}
-use Rattle.ip_trie.specs.declared.prune.TheConstants.{MANY}
+use Rattle.std.proofs.Common.{◌≡◌, ◌+◌, ◌≤◌, length}
+use Rattle.ip_trie.specs.Cells.{leaf_at, node}
 use Rattle.ip_trie.proofs.Joined.{AreJoined}
 use Rattle.ip_trie.proofs.prune.join_way.Given as goal
 

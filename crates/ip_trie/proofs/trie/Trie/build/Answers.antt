@@ -1,5 +1,5 @@
 -- Each text has a prefix.
-use Rattle.std.proofs.Common.{◌≡◌, arith, subst, sym, rules}
+use Rattle.std.proofs.Common.{subst, sym, rules}
 use Rattle.std.specs.Prelude.{IsSome}
 use Rattle.std.proofs.lemmas.Option.{slice_get-get_or}
 use Rattle.ip_trie.proofs.trie.Trie.build.Goals as goal
