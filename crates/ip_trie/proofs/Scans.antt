@@ -152,10 +152,9 @@ empty-trie leaves v6 cells len nexts rows = record {
         let s : node cells bits (l + 1) ≢ 0 = subst (λ k. node cells bits k ≢ 0) e some in
         absurd (s (node-next cells bits l (node-up cells bits l s) ∙ nexts (node cells bits l + digit l bits)))
 
--- a shortest length for each cell of a closed list
+-- the 16 cells below a cell of a trie are there
 pub closed-trie : (leaves : List Leaf) (v6 : Bool) (n : ℕ) (cells : List Cell) → IsTrie leaves v6 n cells → IsClosed cells
 closed-trie leaves v6 n cells t = record {
-  size = λ some. t.size;
   nexts = λ i some. (t.nexts i (λ z. omega (arith, z, some))).2;
 }
 
@@ -172,7 +171,6 @@ pub closed-bucket : (cells : List Cell) (bucket : ℕ) (cell : Cell) → IsClose
 closed-bucket cells bucket cell c size l within =
     let len = length-set cells bucket cell in
     record {
-      size = λ some. omega (arith, size, len);
       nexts = λ i some. elim (cases_eq i bucket) [
         | inr ne ↦
             let e = ap (λ (x : Cell). x.next) (get_or-set_other cells bucket i cell blank ne) in

@@ -5,6 +5,7 @@ use Rattle.ip_trie.specs.declared.cells.Below.{Below}
 use Rattle.ip_trie.specs.declared.cells.Below.TheVariants as below
 use Rattle.ip_trie.specs.declared.cells.Cell.{Cell}
 use Rattle.ip_trie.specs.declared.cells.Leaf.{Leaf}
+use Rattle.ip_trie.specs.declared.cells.TheConstants.{TABLE}
 use Rattle.ip_trie.specs.declared.prune.TheConstants.{MANY}
 
 -- the `next` of a cell below which a row lies alone
@@ -82,7 +83,7 @@ pub record IsPruned (leaves : List Leaf) (v6 : Bool) (whole cells : List Cell) :
 
 -- a search is safe in these cells, among so many leaves
 pub record IsSafe (count : ℕ) (cells : List Cell) : Type 0 where
-  pub size : length cells ≢ 0 → 65552 ≤ length cells
+  pub size : length cells ≢ 0 → TABLE + 16 ≤ length cells
   pub nodes : (i : ℕ) → next_at cells i ≢ 0 → next_at cells i % 16 ≢ 1 → next_at cells i + 16 ≤ length cells
   pub rows : (i row : ℕ) → next_at cells i ≡ next_of_row row → row < count
 

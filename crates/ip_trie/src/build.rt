@@ -10,7 +10,7 @@ ghost use Rattle.ip_trie.specs.declared.cells.Leaf.{Leaf};
 ghost use Rattle.ip_trie.specs.Kept.{AreCellsOf, AreLeavesOf, IsFilled};
 ghost use Rattle.ip_trie.specs.steps.Growing.{AreBettered, Grows, IsBettered, IsGrown};
 
-use crate::cells::{BLANK, Cell, Leaf, TABLE, better, digit_of, leaf_of};
+use crate::cells::{BLANK, Cell, Leaf, TABLE, better, digit_of, leaf_of, level_of};
 use crate::prune::{cut_all, rows_below};
 use crate::trie::TrieFault;
 use dict_value::{Bytes, NoMemory, read_prefix};
@@ -46,15 +46,6 @@ fn has_family(leaves: &[Leaf], v6: bool) -> bool
         }
     }
     false
-}
-
-/// The level at whose cells a prefix ends.
-pub(crate) fn level_of(len: u8) -> u32
-    requires { len ≤ 128 }
-    ensures is { result ≡ level_of len }
-    ensures within { result < 32 }
-{
-    u32::from(len.saturating_sub(1)) / 4
 }
 
 /// How many cells a prefix covers at its level.
@@ -192,8 +183,7 @@ fn scanned(cells: &[Cell], bits: u128) -> Cell
 fn fill_table(cells: &mut Vec<Cell>)
     requires size { 65552 ≤ length cells.old.items }
     requires closed { IsClosed cells.old.items }
-    ensures closed { IsClosed cells.new.items }
-    ensures filled { (leaves : List Leaf) (v6 : Bool) → AreLeaves leaves
+    ensures { (leaves : List Leaf) (v6 : Bool) → AreLeaves leaves
         → IsTrie leaves v6 (length leaves) cells.old.items → IsFilled leaves v6 cells.new.items }
 {
     for bucket in 0..TABLE {

@@ -2,7 +2,7 @@
 ghost use Rattle.std.specs.Prelude.{◌≡◌, ◌≢◌, ◌↔◌, ◌*◌, ◌-◌, ◌/◌, ◌%◌, ◌<◌, ◌≤◌, ◌^◌, IsTrue};
 ghost use Rattle.dict_value.specs.Addresses.{IsPrefix};
 ghost use Rattle.dict_value.specs.declared.value.TheConstants.{MOST_ROWS};
-ghost use Rattle.ip_trie.specs.Cells.{digit, leaf_of, top};
+ghost use Rattle.ip_trie.specs.Cells.{digit, leaf_of, level_of, top};
 ghost use Rattle.ip_trie.specs.Below.{IsNextOf, next_of_row};
 
 use dict_value::Prefix;
@@ -104,6 +104,15 @@ pub(crate) fn bucket_of(bits: u128) -> usize
     ensures within { result < 65536 }
 {
     (bits >> 112) as usize
+}
+
+/// The level at whose cells a prefix ends.
+pub(crate) fn level_of(len: u8) -> u32
+    requires { len ≤ 128 }
+    ensures is { result ≡ level_of len }
+    ensures within { result < 32 }
+{
+    u32::from(len.saturating_sub(1)) / 4
 }
 
 /// The four bits of a level.

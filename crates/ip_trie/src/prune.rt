@@ -5,8 +5,7 @@ ghost use Rattle.ip_trie.specs.Cells.{AreLeaves};
 ghost use Rattle.ip_trie.specs.Below.{AreBelow, AreCut, IsCut, Joins, one_below};
 ghost use Rattle.ip_trie.specs.Kept.{IsFilled};
 
-use crate::build::level_of;
-use crate::cells::{Cell, Leaf, bucket_of, digit_of, next_of_row};
+use crate::cells::{Cell, Leaf, bucket_of, digit_of, level_of, next_of_row};
 use dict_value::NoMemory;
 use std::alloc::Global;
 

@@ -23,8 +23,9 @@ pub enum TrieFault {
     NoMemory,
 }
 
-/// The prefixes of each family: a table of the first 16 bits, and behind it a trie of four bits a level. A
-/// family without rows has no cells.
+/// The prefixes of each family: a table of the first 16 bits, and behind it a trie of four bits a level, in
+/// which a row that lies alone below a cell stands in place of its nodes, so that a search reads its leaf at
+/// once. A family without rows has no cells.
 #[derive(Drop)]
 pub struct Trie<S> {
     v4: Counted<Cell, S>,
@@ -51,11 +52,8 @@ fn last_of<S: Counter>(
     ensures last { IsLastOf (leaf_at leaves.now row) row bits best result }
     ensures step { S.amount steps.new ≤ S.amount steps.old + 1 }
 {
-    if holds(leaves.at(row as usize, steps), bits) {
-        row + 1
-    } else {
-        best
-    }
+    let leaf = leaves.at(row as usize, steps);
+    if holds(leaf, bits) { row + 1 } else { best }
 }
 
 /// One more than the row with the longest prefix that holds some bits, or 0.
@@ -69,7 +67,8 @@ fn found_in<S: Counter>(
     requires leaves { AreLeaves leaves.now }
     requires rows { length leaves.now ≤ MOST_ROWS }
     requires safe { IsSafe (length leaves.now) cells.now }
-    ensures found { (v6 : Bool) → AreCellsOf leaves.now v6 cells.now → TellsBest leaves.now (Has leaves.now v6 bits) result }
+    ensures found { (v6 : Bool) → AreCellsOf leaves.now v6 cells.now
+        → TellsBest leaves.now (Has leaves.now v6 bits) result }
     ensures steps { (v6 : Bool) → AreCellsOf leaves.now v6 cells.now
         → (count : ℕ) × ((count ≡ 0) ⊎ Shares leaves.now v6 bits count)
         × (S.amount steps.new ≤ S.amount steps.old + (count + 1)) }

@@ -18,7 +18,7 @@ pub rows_below-requires-clause-filled : goal.rows_below-requires-clause-filled
 rows_below-requires-clause-filled c =
     let leaves = c.args.leaves.now in
     let e : c.loop-row.row ≡ length leaves = omega arith in
-    subst (IsFilled leaves c.args.v6) (sym c.as_slice.ensures.value) (c.fill_table.ensures.filled leaves c.args.v6 c.requires.leaves (subst (λ n. IsTrie leaves c.args.v6 n c.loop-row.cells.items) e c.loop-row.invariant.trie))
+    subst (IsFilled leaves c.args.v6) (sym c.as_slice.ensures.value) (c.fill_table.ensures leaves c.args.v6 c.requires.leaves (subst (λ n. IsTrie leaves c.args.v6 n c.loop-row.cells.items) e c.loop-row.invariant.trie))
 
 pub cut_all-requires-clause-rows : goal.cut_all-requires-clause-rows
 cut_all-requires-clause-rows c =
@@ -30,7 +30,7 @@ returns-clause-cells c =
     let leaves = c.args.leaves.now in
     let whole = c.fill_table.new.cells.items in
     let e : c.loop-row.row ≡ length leaves = omega arith in
-    let filled = c.fill_table.ensures.filled leaves c.args.v6 c.requires.leaves (subst (λ n. IsTrie leaves c.args.v6 n c.loop-row.cells.items) e c.loop-row.invariant.trie) in
+    let filled = c.fill_table.ensures leaves c.args.v6 c.requires.leaves (subst (λ n. IsTrie leaves c.args.v6 n c.loop-row.cells.items) e c.loop-row.invariant.trie) in
     let below = subst (AreBelow leaves c.args.v6 c.as_slice.result.now (length leaves)) (sym c.as_slice-2.ensures.value) c.in_ok-below.ensures in
     inr (whole, filled, cut-pruned leaves c.args.v6 whole c.cut_all.new.cells.items c.as_slice-2.result.now (subst (λ (z : List Cell). AreBelow leaves c.args.v6 z (length leaves) c.as_slice-2.result.now) c.as_slice.ensures.value below) c.cut_all.ensures)
 
@@ -39,6 +39,6 @@ returns-clause-safe c =
     let leaves = c.args.leaves.now in
     let whole = c.fill_table.new.cells.items in
     let e : c.loop-row.row ≡ length leaves = omega arith in
-    let filled = c.fill_table.ensures.filled leaves c.args.v6 c.requires.leaves (subst (λ n. IsTrie leaves c.args.v6 n c.loop-row.cells.items) e c.loop-row.invariant.trie) in
+    let filled = c.fill_table.ensures leaves c.args.v6 c.requires.leaves (subst (λ n. IsTrie leaves c.args.v6 n c.loop-row.cells.items) e c.loop-row.invariant.trie) in
     let below = subst (AreBelow leaves c.args.v6 c.as_slice.result.now (length leaves)) (sym c.as_slice-2.ensures.value) c.in_ok-below.ensures in
     pruned-safe leaves c.args.v6 (length leaves) whole c.cut_all.new.cells.items filled.trie (cut-pruned leaves c.args.v6 whole c.cut_all.new.cells.items c.as_slice-2.result.now (subst (λ (z : List Cell). AreBelow leaves c.args.v6 z (length leaves) c.as_slice-2.result.now) c.as_slice.ensures.value below) c.cut_all.ensures)
