@@ -1,15 +1,14 @@
 -- The search in a trie.
-use Rattle.std.proofs.Common.{◌≡◌, ◌≢◌, ◌⊎◌, Bool, ℕ, zero, suc, ◌+◌, ◌-◌, ◌*◌, ◌^◌, ◌<◌, ◌≤◌, List, [], length, get_or, set, Some, inl, inr, refl, arith, sym, ◌∙◌, ap, subst, get_or-set_same, get_or-set_other, length-set}
+use Rattle.std.proofs.Common.{◌≡◌, ◌≢◌, ◌⊎◌, Bool, ℕ, zero, suc, ◌+◌, ◌-◌, ◌*◌, ◌^◌, ◌<◌, ◌≤◌, List, length, get_or, set, Some, inl, inr, refl, arith, sym, ◌∙◌, ap, subst, get_or-set_same, get_or-set_other, length-set}
 use Rattle.std.specs.List.{slice_get}
 use Rattle.std.proofs.lemmas.Bool.{cases_eq, cases_lt}
 use Rattle.std.proofs.lemmas.Option.{get_or_from_slice_get}
 use Rattle.ip_trie.specs.Cells.{AreLeaves, EndsAbove, EndsAt, Has, IsClosed, IsBucket, IsTrie, Shares, TellsBest, blank, digit, leaf_at, level_of, next_at, node, row_at, top}
-use Rattle.ip_trie.specs.Kept.{AreCellsOf, IsFilled}
 use Rattle.ip_trie.specs.declared.cells.Cell.{Cell}
 use Rattle.ip_trie.specs.declared.cells.Leaf.{Leaf}
 use Rattle.ip_trie.specs.declared.cells.TheConstants.{TABLE}
 use Rattle.ip_trie.proofs.Bits.{level-least, level-most, level-within, same-top, top-none}
-use Rattle.ip_trie.proofs.Nodes.{next-past, node-agree, node-next, node-same, node-sound, node-up}
+use Rattle.ip_trie.proofs.Nodes.{node-agree, node-next, node-same, node-sound, node-up}
 use Rattle.ip_trie.proofs.Tells.{tells-by, tells-level}
 
 module _ (leaves : List Leaf) (v6 : Bool) (cells : List Cell) (sound : AreLeaves leaves) (t : IsTrie leaves v6 (length leaves) cells) (bits : ℕ) (small : bits < 2 ^ 128) where
@@ -40,10 +39,6 @@ module _ (leaves : List Leaf) (v6 : Bool) (cells : List Cell) (sound : AreLeaves
 -- a cell that was read
 pub cell-read : (cells : List Cell) (i : ℕ) (cell : Cell) → slice_get cells i ≡ Some cell → get_or cells i blank ≡ cell
 cell-read cells i cell read = get_or_from_slice_get cells i cell blank read
-
-pub filled-of : (leaves : List Leaf) (v6 : Bool) (cells : List Cell) → cells ≢ [] → AreCellsOf leaves v6 cells → IsFilled leaves v6 cells
-filled-of leaves v6 cells some (inl none) = absurd (some none.0)
-filled-of leaves v6 cells some (inr filled) = filled
 
 -- ---- the table
 
@@ -157,18 +152,11 @@ empty-trie leaves v6 cells len nexts rows = record {
         let s : node cells bits (l + 1) ≢ 0 = subst (λ k. node cells bits k ≢ 0) e some in
         absurd (s (node-next cells bits l (node-up cells bits l s) ∙ nexts (node cells bits l + digit l bits)))
 
--- a shortest length for each cell of a closed list
+-- the 16 cells below a cell of a trie are there
 pub closed-trie : (leaves : List Leaf) (v6 : Bool) (n : ℕ) (cells : List Cell) → IsTrie leaves v6 n cells → IsClosed cells
 closed-trie leaves v6 n cells t = record {
-  size = λ some. t.size;
   nexts = λ i some. (t.nexts i (λ z. omega (arith, z, some))).2;
 }
-
-pub closed-none : (cells : List Cell) → cells ≡ [] → IsClosed cells
-closed-none cells none = subst IsClosed (sym none) (record {
-  size = λ some. absurd (omega (arith, some));
-  nexts = λ i some. let z = next-past [] i (omega arith) in absurd (omega (arith, z, some));
-})
 
 -- a node that was read is shared
 pub next-shared : (leaves : List Leaf) (v6 : Bool) (n : ℕ) (cells : List Cell) → IsTrie leaves v6 n cells → (bits level : ℕ) → bits < 2 ^ 128 → 0 < level → level < 32 → node cells bits level ≢ 0 → Shares leaves v6 bits (4 * (level + 1 - 1))
@@ -183,7 +171,6 @@ pub closed-bucket : (cells : List Cell) (bucket : ℕ) (cell : Cell) → IsClose
 closed-bucket cells bucket cell c size l within =
     let len = length-set cells bucket cell in
     record {
-      size = λ some. omega (arith, size, len);
       nexts = λ i some. elim (cases_eq i bucket) [
         | inr ne ↦
             let e = ap (λ (x : Cell). x.next) (get_or-set_other cells bucket i cell blank ne) in

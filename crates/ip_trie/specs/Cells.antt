@@ -117,7 +117,6 @@ IsBucket leaves v6 cells bucket =
     (bits : ℕ) → bits < 2 ^ 128 → top 16 bits ≡ bucket
     → (next_at cells bucket ≡ node cells bits 4) × TellsBest leaves (EndsAbove leaves v6 4 bits) (row_at cells bucket)
 
--- A search is safe where there are cells.
+-- The 16 cells below a cell are there.
 pub record IsClosed (cells : List Cell) : Type 0 where
-  pub size : 0 < length cells → TABLE + 16 ≤ length cells
   pub nexts : (i : ℕ) → 0 < next_at cells i → next_at cells i + 16 ≤ length cells

@@ -2,6 +2,7 @@
 use Rattle.std.specs.Prelude.{◌≡◌, ◌<◌, ◌⊎◌, ℕ, Bool, true, false, List, [], Some, length, slice_get}
 use Rattle.dict_value.specs.Addresses.{IsPrefix, prefix_in}
 use Rattle.dict_value.specs.declared.value.Prefix.{Prefix}
+use Rattle.ip_trie.specs.Below.{IsPruned}
 use Rattle.ip_trie.specs.Cells.{AreLeaves, IsIn, IsBucket, IsTrie, leaf_of}
 use Rattle.ip_trie.specs.declared.cells.Cell.{Cell}
 use Rattle.ip_trie.specs.declared.cells.Leaf.{Leaf}
@@ -19,14 +20,14 @@ pub record IsFilled (leaves : List Leaf) (v6 : Bool) (cells : List Cell) : Type 
   pub trie : IsTrie leaves v6 (length leaves) cells
   pub table : (bucket : ℕ) → bucket < TABLE → IsBucket leaves v6 cells bucket
 
--- the cells of a family: none where it has no row
+-- the cells of a family: none where it has no row, else those of its trie, with rows in place of nodes
 abbrev pub AreCellsOf : List Leaf → Bool → List Cell → Type 0
 AreCellsOf leaves v6 cells =
-    ((cells ≡ []) × ((row : ℕ) → ¬ (IsIn leaves v6 row))) ⊎ IsFilled leaves v6 cells
+    ((cells ≡ []) × ((row : ℕ) → ¬ (IsIn leaves v6 row)))
+    ⊎ ((whole : List Cell) × IsFilled leaves v6 whole × IsPruned leaves v6 whole cells)
 
--- the cells of both families
-pub record AreTriesOf (texts : List (List ℕ)) (short long : List Cell) : Type 0 where
-  pub leaves : List Leaf
+-- the cells of both families, and the leaves
+pub record AreTriesOf (texts : List (List ℕ)) (short long : List Cell) (leaves : List Leaf) : Type 0 where
   pub read : AreLeavesOf texts leaves
   pub sound : AreLeaves leaves
   pub v4 : AreCellsOf leaves false short

@@ -1,5 +1,6 @@
 -- The definitions that contracts cite.
 pub mod FindByAddress
 pub mod Cells
+pub mod Below
 pub mod Kept
 pub mod steps

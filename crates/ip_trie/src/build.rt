@@ -1,6 +1,7 @@
 // How a trie is built: row by row, and then its table.
 ghost use Rattle.std.specs.Prelude.{◌≡◌, ◌≢◌, ◌↔◌, ◌⊎◌, ◌+◌, ◌-◌, ◌*◌, ◌<◌, ◌≤◌, ◌^◌, ℕ, Bool, List, Err, IfOk, IsTrue, length};
 ghost use Rattle.dict_value.specs.declared.value.TheConstants.{MOST_ROWS};
+ghost use Rattle.ip_trie.specs.Below.{IsSafe};
 ghost use Rattle.ip_trie.specs.Cells.{AreLeaves, EndsAbove, IsClosed, IsIn, IsTrie, TellsBest, leaf_at, level_of};
 ghost use Rattle.ip_trie.specs.Cells.{next_at, node, row_at};
 ghost use Rattle.ip_trie.specs.FindByAddress.{IsFirstBad};
@@ -9,7 +10,8 @@ ghost use Rattle.ip_trie.specs.declared.cells.Leaf.{Leaf};
 ghost use Rattle.ip_trie.specs.Kept.{AreCellsOf, AreLeavesOf, IsFilled};
 ghost use Rattle.ip_trie.specs.steps.Growing.{AreBettered, Grows, IsBettered, IsGrown};
 
-use crate::cells::{BLANK, Cell, Leaf, TABLE, better, digit_of, leaf_of};
+use crate::cells::{BLANK, Cell, Leaf, TABLE, better, digit_of, leaf_of, level_of};
+use crate::prune::{cut_all, rows_below};
 use crate::trie::TrieFault;
 use dict_value::{Bytes, NoMemory, read_prefix};
 use std::alloc::Global;
@@ -44,15 +46,6 @@ fn has_family(leaves: &[Leaf], v6: bool) -> bool
         }
     }
     false
-}
-
-/// The level at whose cells a prefix ends.
-fn level_of(len: u8) -> u32
-    requires { len ≤ 128 }
-    ensures is { result ≡ level_of len }
-    ensures within { result < 32 }
-{
-    u32::from(len.saturating_sub(1)) / 4
 }
 
 /// How many cells a prefix covers at its level.
@@ -190,8 +183,7 @@ fn scanned(cells: &[Cell], bits: u128) -> Cell
 fn fill_table(cells: &mut Vec<Cell>)
     requires size { 65552 ≤ length cells.old.items }
     requires closed { IsClosed cells.old.items }
-    ensures closed { IsClosed cells.new.items }
-    ensures filled { (leaves : List Leaf) (v6 : Bool) → AreLeaves leaves
+    ensures { (leaves : List Leaf) (v6 : Bool) → AreLeaves leaves
         → IsTrie leaves v6 (length leaves) cells.old.items → IsFilled leaves v6 cells.new.items }
 {
     for bucket in 0..TABLE {
@@ -217,7 +209,7 @@ pub(crate) fn cells_of(alloc: Global, leaves: &[Leaf], v6: bool) -> Result<Vec<C
     requires leaves { AreLeaves leaves.now }
     requires rows { length leaves.now ≤ MOST_ROWS }
     ensures cells { IfOk result (λ cells. AreCellsOf leaves.now v6 cells.items) }
-    ensures closed { IfOk result (λ cells. IsClosed cells.items) }
+    ensures safe { IfOk result (λ cells. IsSafe (length leaves.now) cells.items) }
 {
     if !has_family(leaves, v6) {
         return Ok(Vec::new(alloc));
@@ -227,5 +219,7 @@ pub(crate) fn cells_of(alloc: Global, leaves: &[Leaf], v6: bool) -> Result<Vec<C
         put(&mut cells, leaves, v6, row)?;
     }
     fill_table(&mut cells);
+    let below = rows_below(alloc, cells.as_slice(), leaves, v6)?;
+    cut_all(&mut cells, below.as_slice());
     Ok(cells)
 }

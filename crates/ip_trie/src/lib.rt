@@ -1,4 +1,5 @@
-//! Rows by prefixes of addresses: a table of the first bits over tries of four bits a level.
+//! Rows by prefixes of addresses: a table of the first bits over tries of four bits a level, whose ways end
+//! where one row is left.
 //!
 //! It promises that [`Trie::find`] gives the row with the longest prefix that holds the address, of equal
 //! prefixes the first, in at most one step more than the bits that a prefix has in common with the address
@@ -8,6 +9,7 @@
 
 mod build;
 mod cells;
+mod prune;
 #[cfg(test)]
 mod tests;
 mod trie;

@@ -4,7 +4,7 @@ use dict_value::{Address, Bytes, MOST_ROWS, Tally, Uncounted, read_address};
 use std::alloc::Global;
 use std::test::Fail;
 
-static TEXTS: [&str; 12] = [
+static TEXTS: [&str; 14] = [
     "202.79.32.0/20",
     "202.79.32.2/32",
     "0.0.0.0/0",
@@ -17,10 +17,12 @@ static TEXTS: [&str; 12] = [
     "::ffff:1.2.3.4/128",
     "ffff:ffff:ffff:ffff:ffff:ffff:ffff:ffff/127",
     "2001:db8::ff/124",
+    "192.0.2.128/25",
+    "2001:db8:5::/48",
 ];
 
 /// Addresses, each with its row.
-static ASKED: [(&str, u32); 16] = [
+static ASKED: [(&str, u32); 21] = [
     ("202.79.32.2", 1),
     ("202.79.32.10", 0),
     ("202.79.47.255", 0),
@@ -37,6 +39,11 @@ static ASKED: [(&str, u32); 16] = [
     ("::ffff:1.2.3.4", 9),
     ("::ffff:1.2.3.5", 8),
     ("ffff:ffff:ffff:ffff:ffff:ffff:ffff:fffe", 10),
+    ("192.0.2.128", 12),
+    ("192.0.2.127", 2),
+    ("192.0.3.128", 2),
+    ("2001:db8:5:ffff::1", 13),
+    ("2001:db8:6::1", 3),
 ];
 
 /// Texts that are refused, each with its row.
@@ -49,7 +56,7 @@ static BAD: [(&[&str], u32); 5] = [
 ];
 
 /// A family alone, an address, its row and how many bits a prefix has in common with it.
-static STEPS: [(&[&str], &str, Option<u32>, u64); 8] = [
+static STEPS: [(&[&str], &str, Option<u32>, u64); 12] = [
     (&[], "0.0.0.0", None, 0),
     (&["::/0"], "1.2.3.4", None, 0),
     (&["::/0"], "::1", Some(0), 0),
@@ -58,6 +65,10 @@ static STEPS: [(&[&str], &str, Option<u32>, u64); 8] = [
     (&["202.79.32.0/20"], "0.0.0.1", None, 0),
     (&["202.79.32.2/32"], "202.79.32.3", None, 31),
     (&["2001:db8::1"], "2001:db8::1", Some(0), 128),
+    (&["2001:db8::1"], "2001::", None, 20),
+    (&["2001:db8::/48"], "2001:db8::7", Some(0), 48),
+    (&["2001:db8::/48"], "2001:db9::7", None, 31),
+    (&["10.0.0.0/8", "10.0.1.0/24"], "10.0.0.1", Some(0), 23),
 ];
 
 fn copies(alloc: Global, texts: &[&str]) -> Result<Vec<Bytes>, Fail> {

@@ -1,17 +1,17 @@
 // The tries of both families, and the search in them.
-ghost use Rattle.std.specs.Prelude.{◌≡◌, ◌≢◌, ◌+◌, ◌-◌, ◌≤◌, ◌⊎◌, ℕ, Bool, List, All, None, Some, Err, IfErr, IfOk, IsSome};
+ghost use Rattle.std.specs.Prelude.{◌≡◌, ◌≢◌, ◌+◌, ◌-◌, ◌<◌, ◌≤◌, ◌⊎◌, ℕ, Bool, List, All, None, Some, Err, IfErr, IfOk, IsSome};
 ghost use Rattle.std.specs.Prelude.{OnOk, length};
 ghost use Rattle.dict_value.specs.Addresses.{prefix_in};
 ghost use Rattle.dict_value.specs.Memory.{UnlessNoMemory};
 ghost use Rattle.dict_value.specs.declared.value.TheConstants.{MOST_ROWS};
-ghost use Rattle.ip_trie.specs.Cells.{AreLeaves, Has, IsClosed, Shares, TellsBest};
+ghost use Rattle.ip_trie.specs.Below.{IsLastOf, IsSafe};
+ghost use Rattle.ip_trie.specs.Cells.{AreLeaves, Has, Shares, TellsBest, leaf_at};
 ghost use Rattle.ip_trie.specs.FindByAddress.{FindsByAddress, HasInCommon, IsRefusedFor};
 ghost use Rattle.ip_trie.specs.Kept.{AreCellsOf, AreTriesOf};
-ghost use Rattle.ip_trie.specs.declared.cells.Leaf.{Leaf};
 ghost use Rattle.ip_trie.specs.declared.trie.TrieFault.TheVariants as fault;
 
 use crate::build::{cells_of, leaves_of};
-use crate::cells::{Cell, better, bucket_of, digit_of};
+use crate::cells::{Below, Cell, Leaf, below_of, better, bucket_of, digit_of, holds};
 use dict_value::{Address, Bytes, Counted, Counter, ListOf};
 use std::alloc::Global;
 
@@ -23,24 +23,54 @@ pub enum TrieFault {
     NoMemory,
 }
 
-/// The prefixes of each family: a table of the first 16 bits, and behind it a trie of four bits a level. A
-/// family without rows has no cells.
+/// The prefixes of each family: a table of the first 16 bits, and behind it a trie of four bits a level, in
+/// which a row that lies alone below a cell stands in place of its nodes, so that a search reads its leaf at
+/// once. A family without rows has no cells.
 #[derive(Drop)]
 pub struct Trie<S> {
     v4: Counted<Cell, S>,
     v6: Counted<Cell, S>,
-    ghost closed_v4: { IsClosed v4 },
-    ghost closed_v6: { IsClosed v6 },
+    leaves: Counted<Leaf, S>,
+    ghost sound: { AreLeaves leaves },
+    ghost rows: { length leaves ≤ MOST_ROWS },
+    ghost safe_v4: { IsSafe (length leaves) v4 },
+    ghost safe_v6: { IsSafe (length leaves) v6 },
+}
+
+/// One more than a row, where its prefix holds some bits, else the best so far.
+#[inline(always)]
+fn last_of<S: Counter>(
+    leaves: &Counted<Leaf, S>,
+    row: u32,
+    bits: u128,
+    best: u32,
+    steps: &mut S,
+) -> u32
+    requires leaves { AreLeaves leaves.now }
+    requires row { row < length leaves.now }
+    requires rows { length leaves.now ≤ MOST_ROWS }
+    ensures last { IsLastOf (leaf_at leaves.now row) row bits best result }
+    ensures step { S.amount steps.new ≤ S.amount steps.old + 1 }
+{
+    let leaf = leaves.at(row as usize, steps);
+    if holds(leaf, bits) { row + 1 } else { best }
 }
 
 /// One more than the row with the longest prefix that holds some bits, or 0.
 #[inline(always)]
-fn found_in<S: Counter>(cells: &Counted<Cell, S>, bits: u128, steps: &mut S) -> u32
-    requires { IsClosed cells.now }
-    ensures found { (leaves : List Leaf) (v6 : Bool) → AreLeaves leaves
-        → AreCellsOf leaves v6 cells.now → TellsBest leaves (Has leaves v6 bits) result }
-    ensures steps { (leaves : List Leaf) (v6 : Bool) → AreLeaves leaves
-        → AreCellsOf leaves v6 cells.now → (count : ℕ) × ((count ≡ 0) ⊎ Shares leaves v6 bits count)
+fn found_in<S: Counter>(
+    cells: &Counted<Cell, S>,
+    leaves: &Counted<Leaf, S>,
+    bits: u128,
+    steps: &mut S,
+) -> u32
+    requires leaves { AreLeaves leaves.now }
+    requires rows { length leaves.now ≤ MOST_ROWS }
+    requires safe { IsSafe (length leaves.now) cells.now }
+    ensures found { (v6 : Bool) → AreCellsOf leaves.now v6 cells.now
+        → TellsBest leaves.now (Has leaves.now v6 bits) result }
+    ensures steps { (v6 : Bool) → AreCellsOf leaves.now v6 cells.now
+        → (count : ℕ) × ((count ≡ 0) ⊎ Shares leaves.now v6 bits count)
         × (S.amount steps.new ≤ S.amount steps.old + (count + 1)) }
 {
     if cells.is_empty() {
@@ -49,11 +79,14 @@ fn found_in<S: Counter>(cells: &Counted<Cell, S>, bits: u128, steps: &mut S) -> 
     let mut cell = cells.at(bucket_of(bits), steps);
     let mut best = cell.row;
     for level in 4..32 {
-        if cell.next == 0 {
-            return best;
+        match below_of(cell.next) {
+            Below::Nothing => return best,
+            Below::Row(row) => return last_of(leaves, row, bits, best, steps),
+            Below::Node(start) => {
+                cell = cells.at(start as usize + digit_of(bits, level), steps);
+                best = better(best, cell.row);
+            }
         }
-        cell = cells.at(cell.next as usize + digit_of(bits, level), steps);
-        best = better(best, cell.row);
     }
     best
 }
@@ -62,7 +95,7 @@ impl<S: Counter> Trie<S> {
     /// The trie of a list of prefix texts.
     pub fn build(alloc: Global, texts: &[Bytes]) -> Result<Trie<S>, TrieFault>
         requires { length texts.now ≤ MOST_ROWS }
-        ensures trie { IfOk result (λ trie. AreTriesOf texts.now trie.v4 trie.v6) }
+        ensures trie { IfOk result (λ trie. AreTriesOf texts.now trie.v4 trie.v6 trie.leaves) }
         ensures read { OnOk result (All (λ text. IsSome (prefix_in text)) texts.now) }
         ensures bad { UnlessNoMemory (Err fault.NoMemory) result (IfErr result (IsRefusedFor texts.now)) }
     {
@@ -76,15 +109,16 @@ impl<S: Counter> Trie<S> {
         Ok(Trie {
             v4: Counted::from_list(ListOf::from_vec(v4)),
             v6: Counted::from_list(ListOf::from_vec(v6)),
+            leaves: Counted::from_list(ListOf::from_vec(leaves)),
         })
     }
 
     /// The row with the longest prefix that holds the address, of equal ones the first, in at most one step
     /// more than the bits that a prefix of the family has in common with it, and without taking memory.
     pub fn find(&self, address: &Address, steps: &mut S) -> Option<u32>
-        ensures found { (texts : List (List ℕ)) → AreTriesOf texts self.now.v4 self.now.v6
+        ensures found { (texts : List (List ℕ)) → AreTriesOf texts self.now.v4 self.now.v6 self.now.leaves
             → FindsByAddress texts address.now result }
-        ensures steps { (texts : List (List ℕ)) → AreTriesOf texts self.now.v4 self.now.v6
+        ensures steps { (texts : List (List ℕ)) → AreTriesOf texts self.now.v4 self.now.v6 self.now.leaves
             → (count : ℕ) × HasInCommon texts address.now count
             × (S.amount steps.new ≤ S.amount steps.old + (count + 1)) }
     {
@@ -95,17 +129,17 @@ impl<S: Counter> Trie<S> {
     /// One more than that row, or 0.
     #[inline(always)]
     fn best_for(&self, address: &Address, steps: &mut S) -> u32
-        ensures none { (texts : List (List ℕ)) → AreTriesOf texts self.now.v4 self.now.v6
+        ensures none { (texts : List (List ℕ)) → AreTriesOf texts self.now.v4 self.now.v6 self.now.leaves
             → result ≡ 0 → FindsByAddress texts address.now None }
-        ensures some { (texts : List (List ℕ)) → AreTriesOf texts self.now.v4 self.now.v6
+        ensures some { (texts : List (List ℕ)) → AreTriesOf texts self.now.v4 self.now.v6 self.now.leaves
             → result ≢ 0 → FindsByAddress texts address.now (Some (result - 1)) }
-        ensures steps { (texts : List (List ℕ)) → AreTriesOf texts self.now.v4 self.now.v6
+        ensures steps { (texts : List (List ℕ)) → AreTriesOf texts self.now.v4 self.now.v6 self.now.leaves
             → (count : ℕ) × HasInCommon texts address.now count
             × (S.amount steps.new ≤ S.amount steps.old + (count + 1)) }
     {
         match address {
-            Address::V4(bits) => found_in(&self.v4, u128::from(*bits) << 96, steps),
-            Address::V6(bits) => found_in(&self.v6, *bits, steps),
+            Address::V4(bits) => found_in(&self.v4, &self.leaves, u128::from(*bits) << 96, steps),
+            Address::V6(bits) => found_in(&self.v6, &self.leaves, *bits, steps),
         }
     }
 }

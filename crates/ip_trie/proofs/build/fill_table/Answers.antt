@@ -37,8 +37,8 @@ loop-bucket-preserved c =
           ];
     }
 
-pub returns-clause-filled : goal.returns-clause-filled
-returns-clause-filled c = λ leaves v6 sound t. record {
+pub returns : goal.returns
+returns c = λ leaves v6 sound t. record {
   trie = c.loop-bucket.invariant.trie leaves v6 sound t;
   table = λ bucket l. c.loop-bucket.invariant.buckets leaves v6 sound t bucket (omega (arith, l));
 }
