@@ -1,3 +1,5 @@
+mod Spelt
+mod Quoting
 mod Ahead
 mod NameLaws
 mod StatementLaws

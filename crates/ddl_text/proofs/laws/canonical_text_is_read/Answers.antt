@@ -1,0 +1,7 @@
+use Rattle.std.proofs.Common.{refl}
+use Rattle.ddl_text.proofs.laws.canonical_text_is_read.Goals as goal
+use Rattle.ddl_text.proofs.Spelt
+use Rattle.ddl_text.proofs.Quoting
+
+pub returns : goal.returns
+returns c = λ x. refl
