@@ -1,5 +1,7 @@
 mod Spelt
 mod Quoting
+mod ValueTexts
+mod TypeTexts
 mod Ahead
 mod NameLaws
 mod StatementLaws

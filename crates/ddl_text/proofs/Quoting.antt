@@ -1,5 +1,5 @@
 -- Names, texts and numbers are written as one token each.
-use Rattle.std.proofs.Common.{◌≡◌, ◌≢◌, ◌<◌, ◌^◌, ◌≤◌, ◌/◌, ◌%◌, ℕ, zero, suc, ◌+◌, Bool, true, false, cond, List, [], ◌∷◌, ◌++◌, length, Option, Some, None, Result, Ok, Err, refl, sym, ap, subst, ◌∙◌, inl, inr, arith, decimal, ℤ, pos, negsuc, unsigned_abs, append-nil, lt-ltb}
+use Rattle.std.proofs.Common.{◌≡◌, ◌≢◌, ◌<◌, ◌^◌, ◌≤◌, ◌/◌, ◌%◌, ℕ, zero, suc, ◌+◌, Bool, true, false, cond, List, [], ◌∷◌, ◌++◌, length, Option, Some, None, Result, Ok, Err, refl, sym, ap, subst, ◌∙◌, inl, inr, arith, decimal, ℤ, pos, negsuc, unsigned_abs, append-nil, append_assoc, lt-ltb}
 use Rattle.std.specs.Prelude.{◌==◌, ◌&&◌, codes, nat_le}
 use Rattle.std.specs.List.{AllByRecursion, flat_map}
 use Rattle.std.specs.Str.{all_ascii_digits}
@@ -139,9 +139,12 @@ sign_is (negsuc n) = inr (45, refl, refl)
 
 pub scaled_written : (scale : ℕ) (z : ℤ) (rest : List ℕ) → unsigned_abs z < 10 ^ 64 → Apart rest → IsToken Number (decimal_text scale z) (decimal_text scale z) rest
 scaled_written scale z rest small apart =
-    scaled_token (sign_text z) (decimal (unsigned_abs z / 10 ^ scale)) (without_end_zeros (last_digits scale (unsigned_abs z))) rest (sign_is z)
-    (number_digits (unsigned_abs z / 10 ^ scale) (omega (arith, div-le_self (unsigned_abs z) (10 ^ scale))))
-    (kept_digits (last_digits scale (unsigned_abs z)) (last_digits_are scale (unsigned_abs z))) apart
+    let sign = sign_text z in
+    let whole_part = decimal (unsigned_abs z / 10 ^ scale) in
+    let places = without_end_zeros (last_digits scale (unsigned_abs z)) in
+    subst (λ (t : List ℕ). IsToken Number t t rest) (sym (append_assoc sign whole_part (fraction_text places)))
+    (scaled_token sign whole_part places rest (sign_is z) (number_digits (unsigned_abs z / 10 ^ scale) (omega (arith, div-le_self (unsigned_abs z) (10 ^ scale))))
+    (kept_digits (last_digits scale (unsigned_abs z)) (last_digits_are scale (unsigned_abs z))) apart)
 
 -- ---- whole numbers of a definition
 

@@ -2,6 +2,9 @@ use Rattle.std.proofs.Common.{refl}
 use Rattle.ddl_text.proofs.laws.canonical_text_is_read.Goals as goal
 use Rattle.ddl_text.proofs.Spelt
 use Rattle.ddl_text.proofs.Quoting
+use Rattle.ddl_text.proofs.ValueTexts
+use Rattle.ddl_text.proofs.TypeTexts
+use Rattle.ddl_clauses.specs.declared.settings.Setting.{Setting}
 
 pub returns : goal.returns
 returns c = λ x. refl
