@@ -89,10 +89,10 @@ base_written type.DateTime rest h apart place =
 base_written type.Uuid rest h apart place = then_at _ (word_at place (codes "UUID") rest base_name _ refl apart refl) (nothing_written rest _ (refl, refl))
 base_written type.Ipv4 rest h apart place = then_at _ (word_at place (codes "IPv4") rest base_name _ refl apart refl) (nothing_written rest _ (refl, refl))
 base_written type.Ipv6 rest h apart place = then_at _ (word_at place (codes "IPv6") rest base_name _ refl apart refl) (nothing_written rest _ (refl, refl))
-base_written (type.Decimal digits scale) rest h apart =
+base_written (type.Decimal digits scale) rest h apart begun =
     at_text (decimal_spelled digits scale rest) (λ place.
     then_at (base.Decimal, (token_of place Word (codes "Decimal")).place) (word_at place (codes "Decimal") (Digits digits scale rest) base_name _ refl (apart_open (decimal digits ++ (44 ∷ 32 ∷ (decimal scale ++ (41 ∷ rest))))) refl)
-    (decimal_behind (token_of place Word (codes "Decimal")).place digits scale rest h))
+    (decimal_behind (token_of place Word (codes "Decimal")).place digits scale rest h)) begun
 
 -- what one writes of a type is written of it among those that may be NULL, too
 named : (t : ColType) (own : List Token) → IsBase (stands t) own → IsType (stands (not_null t)) own
