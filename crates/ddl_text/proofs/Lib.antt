@@ -2,6 +2,7 @@ mod Spelt
 mod Quoting
 mod ValueTexts
 mod TypeTexts
+mod ColumnTexts
 mod Ahead
 mod NameLaws
 mod StatementLaws

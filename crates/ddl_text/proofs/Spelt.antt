@@ -12,8 +12,8 @@ use Rattle.ddl_tokens.specs.Letters.{begins_with, is_word_start, is_word_byte, i
 use Rattle.ddl_tokens.specs.Tokens.{Token, AreTokens, IsGap, empty, blank, comment, IsLastGap, IsToken, word as one_word, sign as one_sign, TokensFrom, ends, breaks, next, begins_with_fraction}
 use Rattle.ddl_tokens.specs.Reading.{is_keyword, is_the_sign}
 use Rattle.ddl_tokens.specs.Laws.{Grammar, IsKeyword, IsNothing, IsOne, IsSign, Made, Optional, Then, judged}
-use Rattle.ddl_tokens.specs.Lists.{AddsOnce, Many, has_number, none, more}
-use Rattle.ddl_tokens.proofs.Laws.{same_itself}
+use Rattle.ddl_tokens.specs.Lists.{AddsOnce, Many, Separated, Tail, another, ended, has_number, none, more}
+use Rattle.ddl_tokens.proofs.Laws.{judged_ok, same_itself}
 
 -- From this place on a text has tokens that fit, and the rest behind them.
 pub record Spells (place : ℕ) (text : List ℕ) (Fits : List Token → Type 0) (rest : List ℕ) : Type 0 where
@@ -167,6 +167,32 @@ pub once_more : {K A : Type 0} {kind_number : K → ℕ} {number : A → ℕ} {O
     → Writes text (Many (AddsOnce kind_number number Own) a c) rest
 once_more {a = a} kind item once h k =
     more_of (a ++ item ∷ []) (fit (λ own f. record { kind = kind; item = item; new = refl; once = once; fits = f }) h) k
+
+-- ---- lists with a comma between their items
+
+pub no_more : {A : Type 0} {Own : A → List Token → Type 0} (rest : List ℕ) → Writes rest (Tail 44 Own []) rest
+no_more {Own = Own} rest = nothing_written rest (Tail 44 Own []) ended
+
+pub one_more : {A : Type 0} {Own : A → List Token → Type 0} {text mid rest : List ℕ} {a : A} {others : List A} → Writes text (Own a) mid → Writes mid (Tail 44 Own others) rest
+    → Writes (44 ∷ 32 ∷ text) (Tail 44 Own (a ∷ others)) rest
+one_more {text = text} h k place =
+    let s = sign_written 44 (32 ∷ text) refl place in
+    let x = blank_first h s.behind in
+    let y = k x.behind in
+    record {
+      own = s.own ++ (x.own ++ y.own);
+      fits =
+          another (ap (λ (us : List Token). us ++ (x.own ++ y.own)) s.fits.parts) (judged_ok (is_the_sign 44 s.fits.token) (tt {0}) (tt {0}) (Unexpected s.fits.token.place) s.fits.fine).0
+          x.fits y.fits;
+      behind = y.behind;
+      goes = λ ts t.
+          subst (λ (us : List Token). TokensFrom place (44 ∷ 32 ∷ text) us) (sym (append_assoc s.own (x.own ++ y.own) ts ∙ ap (λ (us : List Token). s.own ++ us) (append_assoc x.own y.own ts)))
+          (s.goes (x.own ++ (y.own ++ ts)) (x.goes (y.own ++ ts) (y.goes ts t)));
+    }
+
+pub separated_written : {A : Type 0} {Own : A → List Token → Type 0} {text mid rest : List ℕ} (a : A) (others : List A) → Writes text (Own a) mid → Writes mid (Tail 44 Own others) rest
+    → Writes text (Separated 44 Own (a ∷ others)) rest
+separated_written a others h k = then_written a h (fit (λ own f. (others, refl, f)) k)
 
 -- ---- a whole text
 
