@@ -129,3 +129,133 @@ column_written true c rest h apart =
     (then_written (stands c.ty) (blank_first (type_written c.ty behind h.0 (apart_blank _)))
     (then_written (Some seen.seen) (blank_first (then_written tt (keyword_written (codes "DEFAULT") (32 ∷ literal) (codes "DEFAULT") refl (same_itself Any (codes "DEFAULT")) (apart_blank literal)) (blank_first seen.written)))
     (made_written (column c.name c.ty (Some seen.seen)) c (marks_of c.hierarchical c.object_id c.injective) (column_is c (Some seen.seen) seen.gives) (marks_written c.hierarchical c.object_id c.injective rest apart)))))
+
+-- ---- lists of columns
+
+-- the columns from a place on are these
+abbrev pub AreFrom : Definition → ℕ → List Column → Type 0
+AreFrom d place columns = (j : ℕ) → slice_get d.columns (place + j) ≡ slice_get columns j
+
+pub others_from : (d : Definition) (place : ℕ) (c : Column) (columns : List Column) → AreFrom d place (c ∷ columns) → AreFrom d (place + 1) columns
+others_from d place c columns h j = ap (slice_get d.columns) (let e : place + 1 + j ≡ place + suc j = omega arith in e) ∙ h (suc j)
+
+pub first_from : (d : Definition) (place : ℕ) (c : Column) (columns : List Column) → AreFrom d place (c ∷ columns) → slice_get d.columns place ≡ Some c
+first_from d place c columns h = ap (slice_get d.columns) (let e : place ≡ place + 0 = omega arith in e) ∙ h 0
+
+abbrev pub AreWritten : Definition → Type 0
+AreWritten d = (place : ℕ) (c : Column) → slice_get d.columns place ≡ Some c → IsWritten (is_attribute d place) c
+
+text_here : (d : Definition) (place : ℕ) (c : Column) → slice_get d.columns place ≡ Some c → column_at_text d place ≡ column_text d place c
+text_here d place c e = ap (λ (o : Option Column). elim o as (λ _. List ℕ) [ None ↦ [] | Some column ↦ column_text d place column ]) e
+
+listed_here : (d : Definition) (place : ℕ) (c : Column) → 0 < place → slice_get d.columns place ≡ Some c → listed_column d place ≡ 44 ∷ 32 ∷ column_text d place c
+listed_here d place c later e = cond-true (nat_lt 0 place) (and_then (column_at_text d place)) (column_at_text d place) (lt-ltb 0 place later) ∙ ap (λ (u : List ℕ). 44 ∷ 32 ∷ u) (text_here d place c e)
+
+abbrev Listed : Definition → ℕ → List Column → List ℕ → List ℕ
+Listed d place columns rest = flat_map (listed_column d) (range_with_len place (length columns)) ++ rest
+
+listed_spelled : (d : Definition) (place : ℕ) (c : Column) (columns : List Column) (rest : List ℕ) → 0 < place → slice_get d.columns place ≡ Some c
+    → Listed d place (c ∷ columns) rest ≡ 44 ∷ 32 ∷ (column_text d place c ++ Listed d (place + 1) columns rest)
+listed_spelled d place c columns rest later e =
+    let behind = flat_map (listed_column d) (range_with_len (place + 1) (length columns)) in
+    ap (λ (u : List ℕ). (u ++ behind) ++ rest) (listed_here d place c later e) ∙ ap (λ (u : List ℕ). 44 ∷ 32 ∷ u) (append_assoc (column_text d place c) behind rest)
+
+columns_apart : (d : Definition) (place : ℕ) (columns : List Column) (rest : List ℕ) → 0 < place → AreFrom d place columns → Apart rest → Apart (Listed d place columns rest)
+columns_apart d place [] rest later h apart = apart
+columns_apart d place (c ∷ columns) rest later h apart =
+    subst (λ (u : List ℕ). Apart u) (sym (listed_spelled d place c columns rest later (first_from d place c columns h))) (apart_comma _)
+
+columns_behind : (d : Definition) (place : ℕ) (columns : List Column) (rest : List ℕ) → AreWritten d → 0 < place → AreFrom d place columns → Apart rest
+    → Writes (Listed d place columns rest) (Tail 44 (λ c. IsColumn (stands c)) columns) rest
+columns_behind d place [] rest each later h apart = no_more rest
+columns_behind d place (c ∷ columns) rest each later h apart =
+    let here = first_from d place c columns h in
+    let others = others_from d place c columns h in
+    at_text (listed_spelled d place c columns rest later here)
+    (one_more (column_written (is_attribute d place) c (Listed d (place + 1) columns rest) (each place c here) (columns_apart d (place + 1) columns rest (omega (arith, later)) others apart))
+    (columns_behind d (place + 1) columns rest each (omega (arith, later)) others apart))
+
+-- the columns in their brackets
+pub columns_written : (d : Definition) (c : Column) (columns : List Column) (rest : List ℕ) → AreWritten d → AreFrom d 0 (c ∷ columns)
+    → Writes (40 ∷ (flat_map (listed_column d) (range_with_len 0 (length (c ∷ columns))) ++ (41 ∷ rest))) (AreColumns (stands (c ∷ columns))) rest
+columns_written d c columns rest each h =
+    let here = first_from d 0 c columns h in
+    let others = others_from d 0 c columns h in
+    let close = 41 ∷ rest in
+    let behind = flat_map (listed_column d) (range_with_len 1 (length columns)) in
+    let same : flat_map (listed_column d) (range_with_len 0 (length (c ∷ columns))) ++ close ≡ column_text d 0 c ++ (behind ++ close) =
+    ap (λ (u : List ℕ). (u ++ behind) ++ close) (text_here d 0 c here) ∙ append_assoc (column_text d 0 c) behind close in
+    then_written tt (sign_written 40 (flat_map (listed_column d) (range_with_len 0 (length (c ∷ columns))) ++ close) refl)
+    (then_written (stands (c ∷ columns))
+    (at_text same
+    (separated_written c columns (column_written (is_attribute d 0) c (behind ++ close) (each 0 c here) (columns_apart d 1 columns close (omega arith) others (apart_close rest)))
+    (columns_behind d 1 columns close each (omega arith) others (apart_close rest))))
+    (made_written (λ _. c ∷ columns) (c ∷ columns) tt refl (sign_written 41 rest refl)))
+
+-- ---- keys
+
+-- the name of the column at a place
+abbrev pub name_of_place : Definition → ℕ → List ℕ
+name_of_place d place = elim (slice_get d.columns place) [ None ↦ [] | Some c ↦ c.name ]
+
+abbrev pub HasColumn : Definition → ℕ → Type 0
+HasColumn d place = (c : Column) × (slice_get d.columns place ≡ Some c)
+
+name_here : (d : Definition) (place : ℕ) → HasColumn d place → column_name_text d place ≡ name_text (name_of_place d place)
+name_here d place h =
+    ap (λ (o : Option Column). elim o as (λ _. List ℕ) [ None ↦ [] | Some c ↦ name_text c.name ]) h.1
+    ∙ ap (λ (o : Option Column). name_text (elim o as (λ _. List ℕ) [ None ↦ [] | Some c ↦ c.name ])) (sym h.1)
+
+pub place_name_written : (d : Definition) (place : ℕ) (rest : List ℕ) → HasColumn d place → Apart rest → Writes (column_name_text d place ++ rest) (IsBytes is_name (name_of_place d place)) rest
+place_name_written d place rest h apart = at_text (ap (λ (u : List ℕ). u ++ rest) (name_here d place h)) (name_written (name_of_place d place) rest apart)
+
+keys_apart : (d : Definition) (keys rest : List ℕ) → Apart rest → Apart (other_keys_text d keys ++ rest)
+keys_apart d [] rest apart = apart
+keys_apart d (key ∷ keys) rest apart = apart_comma _
+
+keys_behind : (d : Definition) (keys rest : List ℕ) → AllByRecursion (HasColumn d) keys → Apart rest → Writes (other_keys_text d keys ++ rest) (Tail 44 (IsBytes is_name) (map (name_of_place d) keys)) rest
+keys_behind d [] rest h apart = no_more rest
+keys_behind d (key ∷ keys) rest h apart =
+    at_text (ap (λ (u : List ℕ). 44 ∷ 32 ∷ u) (append_assoc (column_name_text d key) (other_keys_text d keys) rest))
+    (one_more (place_name_written d key (other_keys_text d keys ++ rest) h.0 (keys_apart d keys rest apart)) (keys_behind d keys rest h.1 apart))
+
+pub keys_written : (d : Definition) (key : ℕ) (keys rest : List ℕ) → AllByRecursion (HasColumn d) (key ∷ keys) → Apart rest
+    → Writes (codes " PRIMARY KEY " ++ (keys_text d (key ∷ keys) ++ rest)) (IsKey (map (name_of_place d) (key ∷ keys))) rest
+keys_written d key keys rest h apart =
+    let names = keys_text d (key ∷ keys) ++ rest in
+    blank_first (then_written tt (keyword_written (codes "PRIMARY") (codes " KEY " ++ names) (codes "PRIMARY") refl (same_itself Any (codes "PRIMARY")) (apart_blank _))
+    (then_written tt (blank_first (keyword_written (codes "KEY") (32 ∷ names) (codes "KEY") refl (same_itself Any (codes "KEY")) (apart_blank names)))
+    (blank_first
+    (at_text (append_assoc (column_name_text d key) (other_keys_text d keys) rest)
+    (fit (λ own f. inr f)
+    (separated_written (name_of_place d key) (map (name_of_place d) keys) (place_name_written d key (other_keys_text d keys ++ rest) h.0 (keys_apart d keys rest apart)) (keys_behind d keys rest h.1 apart)))))))
+
+-- ---- arguments
+
+argument_written : (a : Arg) (rest : List ℕ) → IsSoundType a.ty → Apart rest → Writes (typed_text a.name a.ty ++ rest) (IsArgument (stands a)) rest
+argument_written a rest sound apart =
+    at_text (append_assoc (name_text a.name) (32 ∷ type_text a.ty) rest)
+    (then_written a.name (name_written a.name (32 ∷ (type_text a.ty ++ rest)) (apart_blank (type_text a.ty ++ rest)))
+    (made_written (verdict_map (argument a.name)) (stands a) (stands a.ty) refl (blank_first (type_written a.ty rest sound apart))))
+
+arguments_apart : (arguments : List Arg) (rest : List ℕ) → Apart rest → Apart (other_arguments_text arguments ++ rest)
+arguments_apart [] rest apart = apart
+arguments_apart (a ∷ arguments) rest apart = apart_comma _
+
+arguments_behind : (arguments : List Arg) (rest : List ℕ) → AllByRecursion (λ a. IsSoundType a.ty) arguments → Apart rest
+    → Writes (other_arguments_text arguments ++ rest) (Tail 44 (λ a. IsArgument (stands a)) arguments) rest
+arguments_behind [] rest h apart = no_more rest
+arguments_behind (a ∷ arguments) rest h apart =
+    at_text (ap (λ (u : List ℕ). 44 ∷ 32 ∷ u) (append_assoc (typed_text a.name a.ty) (other_arguments_text arguments) rest))
+    (one_more (argument_written a (other_arguments_text arguments ++ rest) h.0 (arguments_apart arguments rest apart)) (arguments_behind arguments rest h.1 apart))
+
+pub arguments_written : (arguments : List Arg) (rest : List ℕ) → AllByRecursion (λ a. IsSoundType a.ty) arguments → Writes (40 ∷ (arguments_text arguments ++ (41 ∷ rest))) (AreArguments (stands arguments)) rest
+arguments_written [] rest h = then_written tt (sign_written 40 (41 ∷ rest) refl) (fit (λ own f. inl f) (made_written (λ _. []) [] tt refl (sign_written 41 rest refl)))
+arguments_written (a ∷ arguments) rest h =
+    let close = 41 ∷ rest in
+    then_written tt (sign_written 40 (arguments_text (a ∷ arguments) ++ close) refl)
+    (fit (λ own f. inr f)
+    (then_written (stands (a ∷ arguments))
+    (at_text (append_assoc (typed_text a.name a.ty) (other_arguments_text arguments) close)
+    (separated_written a arguments (argument_written a (other_arguments_text arguments ++ close) h.0 (arguments_apart arguments close (apart_close rest))) (arguments_behind arguments close h.1 (apart_close rest))))
+    (made_written (λ _. a ∷ arguments) (a ∷ arguments) tt refl (sign_written 41 rest refl))))
