@@ -3,6 +3,7 @@ mod Quoting
 mod ValueTexts
 mod TypeTexts
 mod ColumnTexts
+mod SettingTexts
 mod Ahead
 mod NameLaws
 mod StatementLaws

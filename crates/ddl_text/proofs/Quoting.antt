@@ -6,7 +6,8 @@ use Rattle.std.specs.Str.{all_ascii_digits}
 use Rattle.std.specs.Char.{is_ascii_digit}
 use Rattle.std.specs.Fmt.{signed_decimal}
 use Rattle.std.proofs.Math.Nat.{div-le_self}
-use Rattle.std.proofs.lemmas.Bool.{eqb-true, eqb-false, and_parts, cases_Bool}
+use Rattle.std.specs.Option.{option_and_then}
+use Rattle.std.proofs.lemmas.Bool.{cond-true, eqb-true, eqb-false, le-leb}
 use Rattle.std.proofs.lemmas.Bool.Decides.{nat_tests}
 use Rattle.dict_value.specs.Escapes.{unescaped}
 use Rattle.dict_value.specs.Numbers.{given, below, unsigned_in, unsigned_of}
@@ -22,6 +23,7 @@ use Rattle.ddl_tokens.specs.Letters.{is_digit, is_quote}
 use Rattle.ddl_tokens.specs.Quoted.{StandsFor, nothing, itself, escaped}
 use Rattle.ddl_tokens.specs.Tokens.{Token, AreDigits, IsNumberSign, IsToken, whole, fraction, quoted}
 use Rattle.ddl_tokens.specs.Laws.{IsOne}
+use Rattle.ddl_clauses.specs.Choices.{whole_in}
 use Rattle.ddl_writing.specs.Canonical.{as_string}
 use Rattle.ddl_writing.specs.Quoted.{byte_in_quotes, in_quotes, letter_in_quotes, name_text, string_text, with_letter}
 use Rattle.ddl_text.proofs.Spelt.{Apart, Spells, one_at, token_of}
@@ -150,3 +152,8 @@ scaled_written scale z rest small apart =
 
 pub whole_read : (n : ℕ) → n < 2 ^ 64 → unsigned_of 64 (decimal n) ≡ Ok n
 whole_read n small = rw (unsigned_again n (omega (arith, small)), lt-ltb n (2 ^ 64) small) refl
+
+-- a number of at most so much
+pub whole_within : (most n : ℕ) → n ≤ most → most < 10 ^ 64 → whole_in most (decimal n) ≡ Some n
+whole_within most n within small =
+    ap (option_and_then (λ (m : ℕ). cond (nat_le m most) (Some m) None)) (unsigned_again n (omega (arith, within, small))) ∙ cond-true (nat_le n most) (Some n) None (le-leb n most within)
