@@ -4,6 +4,7 @@ mod ValueTexts
 mod TypeTexts
 mod ColumnTexts
 mod SettingTexts
+mod SourceTexts
 mod Ahead
 mod NameLaws
 mod StatementLaws
