@@ -5,6 +5,8 @@ mod TypeTexts
 mod ColumnTexts
 mod SettingTexts
 mod SourceTexts
+mod LayoutTexts
+mod ClauseTexts
 mod Ahead
 mod NameLaws
 mod StatementLaws

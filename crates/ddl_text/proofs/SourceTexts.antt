@@ -189,7 +189,7 @@ pub record SourceAgain (owner : Owner) (b : Bool) (k : Kind) (u : Update) (s : S
 settings_spelled : (p f t e rest : List ℕ) → (p ++ (f ++ (t ++ e))) ++ rest ≡ p ++ (f ++ (t ++ (e ++ rest)))
 settings_spelled p f t e rest = append_assoc p (f ++ (t ++ e)) rest ∙ ap (λ (u : List ℕ). p ++ u) (append_assoc f (t ++ e) rest ∙ ap (λ (u : List ℕ). f ++ u) (append_assoc t e rest))
 
-kept_whole : (n : ℕ) → n ≤ most_short → n ≡ kept_short n
+pub kept_whole : (n : ℕ) → n ≤ most_short → n ≡ kept_short n
 kept_whole n small = omega (arith, small)
 
 pub dictionary_source : (k : Kind) (u : Update) (s : SourceOf) (rest : List ℕ) → AreShort s → KindAgain k s → UpdateAgain false k u → SourceAgain Dictionary false k u s rest

@@ -7,6 +7,8 @@ use Rattle.ddl_text.proofs.TypeTexts
 use Rattle.ddl_text.proofs.ColumnTexts
 use Rattle.ddl_text.proofs.SettingTexts
 use Rattle.ddl_text.proofs.SourceTexts
+use Rattle.ddl_text.proofs.LayoutTexts
+use Rattle.ddl_text.proofs.ClauseTexts
 use Rattle.ddl_clauses.specs.declared.settings.Setting.{Setting}
 
 pub returns : goal.returns
