@@ -7,6 +7,7 @@ mod SettingTexts
 mod SourceTexts
 mod LayoutTexts
 mod ClauseTexts
+mod Restored
 mod Ahead
 mod NameLaws
 mod StatementLaws

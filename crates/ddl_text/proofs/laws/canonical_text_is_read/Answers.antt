@@ -9,6 +9,7 @@ use Rattle.ddl_text.proofs.SettingTexts
 use Rattle.ddl_text.proofs.SourceTexts
 use Rattle.ddl_text.proofs.LayoutTexts
 use Rattle.ddl_text.proofs.ClauseTexts
+use Rattle.ddl_text.proofs.Restored
 use Rattle.ddl_clauses.specs.declared.settings.Setting.{Setting}
 
 pub returns : goal.returns
