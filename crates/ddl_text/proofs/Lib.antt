@@ -8,6 +8,7 @@ mod SourceTexts
 mod LayoutTexts
 mod ClauseTexts
 mod Restored
+mod ItemTexts
 mod Ahead
 mod NameLaws
 mod StatementLaws
