@@ -1,16 +1,13 @@
 -- Clauses are written by their grammar, and mean the parts of the definition again.
-use Rattle.std.proofs.Common.{◌≡◌, ◌<◌, ◌≤◌, ◌^◌, ◌+◌, ℕ, Bool, true, false, cond, List, [], ◌∷◌, ◌++◌, Option, Some, None, refl, sym, ap, subst, ◌∙◌, inl, inr, arith, decimal, append_assoc}
+use Rattle.std.proofs.Common.{◌≡◌, ◌≤◌, ℕ, Bool, false, cond, List, [], ◌∷◌, ◌++◌, Option, Some, None, refl, ap, ◌∙◌, inl, inr, arith, decimal, append_assoc}
 use Rattle.std.specs.Prelude.{codes}
 use Rattle.dict_schema.specs.declared.definition.Definition.{Definition}
-use Rattle.dict_schema.specs.declared.definition.Layout.{Layout}
 use Rattle.dict_schema.specs.declared.definition.Lifetime.{Lifetime}
 use Rattle.dict_schema.specs.declared.definition.RangeOf.{RangeOf}
 use Rattle.dict_schema.specs.declared.definition.RangeOf.TheVariants as range
-use Rattle.dict_schema.specs.declared.definition.SourceOf.{SourceOf}
 use Rattle.ddl_tokens.specs.declared.fault.SyntaxFault.TheVariants.{UnknownSetting}
 use Rattle.ddl_tokens.specs.declared.letters.LetterCase.TheVariants.{Any}
 use Rattle.ddl_tokens.specs.declared.token.TokenKind.TheVariants.{Word}
-use Rattle.ddl_tokens.specs.Letters.{same_letters}
 use Rattle.ddl_tokens.specs.Tokens.{Token}
 use Rattle.ddl_tokens.specs.Reading.{is_name, is_string}
 use Rattle.ddl_tokens.specs.Laws.{judged}
@@ -22,16 +19,16 @@ use Rattle.ddl_clauses.specs.declared.clause.ClauseKind.TheVariants as kind
 use Rattle.ddl_clauses.specs.declared.clause.RangeNames.{RangeNames}
 use Rattle.ddl_clauses.specs.declared.clause.WrittenLayout.{WrittenLayout}
 use Rattle.ddl_clauses.specs.declared.clause.WrittenSource.{WrittenSource}
-use Rattle.ddl_clauses.specs.declared.settings.Owner.TheVariants.{Dictionary, Function}
+use Rattle.ddl_clauses.specs.declared.settings.Owner.TheVariants.{Dictionary}
 use Rattle.ddl_clauses.specs.Choices.{choice, meant_by, most_short, most_whole, or_fault, word_in}
 use Rattle.ddl_clauses.specs.Clauses.{clause_number, layout as written_layout, lifetime, number_of_clause, range as range_names, source}
 use Rattle.ddl_clauses.specs.Grammar.{AreDictionaryClauses, IsDictionaryClause, IsLifetime, IsOutputSettings, IsRange}
-use Rattle.ddl_clauses.specs.Parts.{clause_of_kind, dictionary_parts, kept_short, layout_with, source_with}
-use Rattle.ddl_writing.specs.Canonical.{clauses_text, column_name_text, comment_text, layout_text, lifetime_text, output_text, range_text, source_text}
+use Rattle.ddl_clauses.specs.Parts.{clause_of_kind, dictionary_parts}
+use Rattle.ddl_writing.specs.Canonical.{column_name_text, comment_text, layout_text, lifetime_text, output_text, range_text, source_text}
 use Rattle.ddl_writing.specs.Quoted.{string_text}
 use Rattle.ddl_writing.specs.Words.{word_text}
 use Rattle.ddl_text.specs.Again.{HasShortTimes, TextHasLifetime}
-use Rattle.ddl_text.proofs.Spelt.{Apart, Spells, Writes, apart_blank, apart_close, apart_open, at_text, blank_first, fit, is_bare, keyword_written, last_of, made_written, once_more, sign_written, then_written, token_of, word_at}
+use Rattle.ddl_text.proofs.Spelt.{Apart, Writes, apart_blank, apart_close, apart_open, at_text, blank_first, fit, keyword_written, last_of, made_written, once_more, sign_written, then_written, token_of, word_at}
 use Rattle.ddl_text.proofs.Quoting.{string_at}
 use Rattle.ddl_text.proofs.ColumnTexts.{HasColumn, name_of_place, place_name_written}
 use Rattle.ddl_text.proofs.SettingTexts.{whole_up_to}

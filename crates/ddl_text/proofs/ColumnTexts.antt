@@ -1,11 +1,9 @@
 -- Columns, keys and arguments are written by their grammar.
-use Rattle.std.proofs.Common.{◌≡◌, ◌≢◌, ◌<◌, ◌≤◌, ◌+◌, ℕ, zero, suc, Bool, true, false, cond, List, [], ◌∷◌, ◌++◌, length, map, Option, Some, None, Result, Ok, Err, refl, sym, ap, subst, ◌∙◌, inl, inr, arith, append_assoc}
+use Rattle.std.proofs.Common.{◌≡◌, ◌<◌, ◌+◌, ℕ, suc, Bool, true, false, List, [], ◌∷◌, ◌++◌, length, map, Option, Some, None, refl, sym, ap, subst, ◌∙◌, inl, inr, arith, append_assoc}
 use Rattle.std.specs.Prelude.{codes, nat_lt, slice_get}
 use Rattle.std.specs.List.{AllByRecursion, flat_map, range_with_len}
 use Rattle.std.proofs.lemmas.Bool.{cond-true, lt-ltb}
-use Rattle.dict_value.specs.declared.value.AttrType.{AttrType}
 use Rattle.dict_value.specs.declared.value.Field.{Field}
-use Rattle.dict_value.specs.declared.value.Value.{Value}
 use Rattle.dict_value.specs.Values.{FitsColumn, default_of_column}
 use Rattle.dict_schema.specs.declared.definition.Arg.{Arg}
 use Rattle.dict_schema.specs.declared.definition.Column.{Column}
@@ -13,22 +11,20 @@ use Rattle.dict_schema.specs.declared.definition.Definition.{Definition}
 use Rattle.dict_schema.specs.Parts.{is_attribute}
 use Rattle.dict_schema.specs.Sound.{IsSoundType}
 use Rattle.ddl_tokens.specs.declared.letters.LetterCase.TheVariants.{Any}
-use Rattle.ddl_tokens.specs.declared.token.TokenKind.TheVariants.{QuotedWord}
-use Rattle.ddl_tokens.specs.Letters.{is_word_byte, same_letters}
 use Rattle.ddl_tokens.specs.Tokens.{Token}
 use Rattle.ddl_tokens.specs.Reading.{is_name}
 use Rattle.ddl_tokens.specs.Laws.{IsBytes, judged}
-use Rattle.ddl_tokens.specs.Lists.{AddsOnce, Many, Separated, Tail, has_all, has_number}
+use Rattle.ddl_tokens.specs.Lists.{AddsOnce, Many, Tail, has_all, has_number}
 use Rattle.ddl_tokens.specs.Verdicts.{stands, verdict_map}
 use Rattle.ddl_tokens.proofs.Laws.{same_itself}
 use Rattle.ddl_columns.specs.declared.marks.Mark.{Mark}
 use Rattle.ddl_columns.specs.declared.marks.Mark.TheVariants as mark
 use Rattle.ddl_columns.specs.Defaults.{default_given}
-use Rattle.ddl_columns.specs.Grammar.{AreArguments, AreColumns, AreMarks, AreNames, IsArgument, IsColumn, IsColumnMark, IsKey, argument, column}
-use Rattle.ddl_columns.specs.Marks.{mark_number, wanted_marks, word_of}
+use Rattle.ddl_columns.specs.Grammar.{AreArguments, AreColumns, AreMarks, IsArgument, IsColumn, IsColumnMark, IsKey, argument, column}
+use Rattle.ddl_columns.specs.Marks.{mark_number, word_of}
 use Rattle.ddl_writing.specs.Canonical.{and_then, arguments_text, column_at_text, column_name_text, column_text, default_text, keys_text, listed_column, literal_text, mark_text, marks_text, other_arguments_text, other_keys_text, type_text, typed_text}
 use Rattle.ddl_writing.specs.Quoted.{name_text}
-use Rattle.ddl_text.proofs.Spelt.{Apart, Spells, Writes, apart_blank, apart_close, apart_comma, at_text, blank_first, fit, is_bare, keyword_written, last_of, made_written, no_more, nothing_written, once_more, one_more, separated_written, sign_written, then_written}
+use Rattle.ddl_text.proofs.Spelt.{Apart, Writes, apart_blank, apart_close, apart_comma, at_text, blank_first, fit, is_bare, keyword_written, last_of, made_written, no_more, nothing_written, once_more, one_more, separated_written, sign_written, then_written}
 use Rattle.ddl_text.proofs.Quoting.{name_at}
 use Rattle.ddl_text.proofs.TypeTexts.{literal_of, type_written}
 

@@ -1,9 +1,8 @@
 -- The canonical text of an item is read as the item again.
-use Rattle.std.proofs.Common.{◌≡◌, ◌≢◌, ◌<◌, ◌≤◌, ◌+◌, ◌⊎◌, ℕ, zero, suc, Bool, true, false, cond, List, [], ◌∷◌, ◌++◌, length, map, All, Option, Some, None, Ok, Err, refl, sym, ap, subst, ◌∙◌, inl, inr, arith, append_assoc, append-nil}
+use Rattle.std.proofs.Common.{◌≡◌, ◌≢◌, ◌≤◌, ◌+◌, ℕ, Bool, true, false, cond, List, [], ◌∷◌, ◌++◌, length, map, Some, None, Ok, Err, refl, sym, ap, subst, ◌∙◌, inl, inr, arith, append_assoc, append-nil}
 use Rattle.std.specs.Prelude.{codes, slice_get}
 use Rattle.std.specs.List.{AllByRecursion, flat_map, range_with_len}
 use Rattle.std.proofs.lemmas.Bool.{cases_Bool, cases_lt}
-use Rattle.dict_value.specs.Values.{FitsColumn, default_of_column}
 use Rattle.dict_schema.specs.declared.definition.Arg.{Arg}
 use Rattle.dict_schema.specs.declared.definition.Column.{Column}
 use Rattle.dict_schema.specs.declared.definition.Definition.{Definition}
@@ -27,14 +26,12 @@ use Rattle.dict_schema.specs.Table.{LayoutWithin, NamesWithin, Within, arguments
 use Rattle.ddl_tokens.specs.declared.fault.SyntaxFault.TheVariants.{Unexpected}
 use Rattle.ddl_tokens.specs.declared.letters.LetterCase.TheVariants.{Any}
 use Rattle.ddl_tokens.specs.declared.token.TokenKind.TheVariants.{Word, End}
-use Rattle.ddl_tokens.specs.Letters.{same_letters}
 use Rattle.ddl_tokens.specs.Tokens.{Token}
-use Rattle.ddl_tokens.specs.Reading.{is_keyword, is_name}
-use Rattle.ddl_tokens.specs.Laws.{IsBytes, judged}
+use Rattle.ddl_tokens.specs.Reading.{is_keyword}
+use Rattle.ddl_tokens.specs.Laws.{judged}
 use Rattle.ddl_tokens.specs.Verdicts.{stands}
 use Rattle.ddl_tokens.proofs.Laws.{same_itself}
-use Rattle.ddl_columns.specs.Grammar.{AreArguments, AreColumns, IsKey}
-use Rattle.ddl_clauses.specs.declared.settings.Owner.TheVariants.{Function}
+use Rattle.ddl_columns.specs.Grammar.{AreColumns, IsKey}
 use Rattle.ddl_clauses.specs.Choices.{most_short}
 use Rattle.ddl_clauses.specs.Clauses.{source, written_function}
 use Rattle.ddl_clauses.specs.Parts.{dictionary_parts, function_parts}
@@ -44,14 +41,14 @@ use Rattle.ddl_writing.specs.Words.{word_text}
 use Rattle.ddl_writing.proofs.Defaults.{clear_behind, clear_front, defaults_fit}
 use Rattle.ddl_text.specs.declared.statement.Statement.{Statement}
 use Rattle.ddl_text.specs.Statements.{dictionary, function, pointed}
-use Rattle.ddl_text.specs.Grammar.{IsBegun, IsDictionary, IsEnding, IsFunction, IsNamed, IsStatement}
-use Rattle.ddl_text.specs.Items.{IsTaken, IsTakenItem, count_of, is_named, item_of, key_places, range_of, rules_of, settled_from}
-use Rattle.ddl_text.specs.Files.{AreItems, AreItemsFrom, IsDefined, last}
-use Rattle.ddl_text.specs.Again.{Defines, HasShortTimes, TextHas, TextHasDefinition, TextHasFunction, TextHasLayout, TextHasPool, TextHasSource, TextHasUpdate}
-use Rattle.ddl_text.proofs.Spelt.{Apart, Spells, Spelt, Writes, apart_blank, apart_close, apart_end, apart_open, at_text, blank_first, fit, is_bare, keyword_written, made_written, nothing_written, then_at, then_written, token_of, whole_text, word_at}
+use Rattle.ddl_text.specs.Grammar.{IsBegun, IsStatement}
+use Rattle.ddl_text.specs.Items.{IsTakenItem, count_of, is_named, item_of, key_places, range_of, rules_of, settled_from}
+use Rattle.ddl_text.specs.Files.{AreItems, AreItemsFrom, last}
+use Rattle.ddl_text.specs.Again.{Defines, TextHas, TextHasDefinition, TextHasFunction, TextHasLayout, TextHasPool, TextHasUpdate}
+use Rattle.ddl_text.proofs.Spelt.{Apart, Spells, Writes, apart_blank, apart_end, at_text, blank_first, fit, is_bare, keyword_written, made_written, nothing_written, then_at, then_written, token_of, whole_text, word_at}
 use Rattle.ddl_text.proofs.TypeTexts.{type_written}
 use Rattle.ddl_text.proofs.ColumnTexts.{AreFrom, AreWritten, HasColumn, IsWritten, arguments_written, columns_written, keys_written, name_of_place, name_written}
-use Rattle.ddl_text.proofs.SourceTexts.{KindAgain, SourceAgain, UpdateAgain, function_source, kept_whole, source_spelled}
+use Rattle.ddl_text.proofs.SourceTexts.{KindAgain, UpdateAgain, function_source, kept_whole, source_spelled}
 use Rattle.ddl_text.proofs.LayoutTexts.{IsLayoutAgain}
 use Rattle.ddl_text.proofs.ClauseTexts.{ClausesAgain, IsClausesAgain, clauses_again, output_written}
 use Rattle.ddl_text.proofs.Restored.{all_at, all_each, clear_settings, clear_sources, columns_again, ends_exist, keys_again, keys_exist, range_again, some_key, stable_fit}

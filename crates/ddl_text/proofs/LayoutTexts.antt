@@ -1,5 +1,5 @@
 -- Layouts are written by their grammar, and mean the layout again.
-use Rattle.std.proofs.Common.{◌≡◌, ◌<◌, ◌≤◌, ◌^◌, ◌+◌, ℕ, Bool, true, false, cond, List, [], ◌∷◌, ◌++◌, Option, Some, None, refl, sym, ap, subst, ◌∙◌, arith, decimal, append_assoc}
+use Rattle.std.proofs.Common.{◌≡◌, ◌≤◌, ℕ, Bool, true, false, List, [], ◌∷◌, ◌++◌, Some, refl, ap, ◌∙◌, arith, decimal, append_assoc}
 use Rattle.std.specs.Prelude.{codes}
 use Rattle.dict_schema.specs.declared.definition.CacheSet.{CacheSet}
 use Rattle.dict_schema.specs.declared.definition.Layout.{Layout}
@@ -21,17 +21,17 @@ use Rattle.ddl_clauses.specs.declared.settings.Section.TheVariants as section_of
 use Rattle.ddl_clauses.specs.declared.settings.Setting.{Setting}
 use Rattle.ddl_clauses.specs.declared.settings.SettingName.TheVariants as name
 use Rattle.ddl_clauses.specs.declared.settings.SettingValue.TheVariants as value
-use Rattle.ddl_clauses.specs.Choices.{choice, meant_by, most_short, most_whole, or_fault}
+use Rattle.ddl_clauses.specs.Choices.{choice, meant_by, most_short, or_fault}
 use Rattle.ddl_clauses.specs.Clauses.{layout as written_layout}
 use Rattle.ddl_clauses.specs.Grammar.{AreSettings, AreSettingsInBrackets, IsLayout, IsLayoutSettings}
 use Rattle.ddl_clauses.specs.Layouts.{all_layouts, layout_named, layout_section}
-use Rattle.ddl_clauses.specs.Parts.{kept_short, layout_with, value_of_setting}
+use Rattle.ddl_clauses.specs.Parts.{layout_with, value_of_setting}
 use Rattle.ddl_clauses.specs.SettingLists.{setting}
 use Rattle.ddl_writing.specs.Canonical.{bit_text, cache_text, flat_text, kept_text, layout_text, strategy_text}
 use Rattle.ddl_writing.specs.Words.{word_text}
 use Rattle.ddl_text.specs.Again.{TextHasCache}
-use Rattle.ddl_text.proofs.Spelt.{Apart, Spells, Writes, apart_blank, apart_close, apart_open, at_text, blank_first, fit, is_bare, keyword_written, last_of, made_written, nothing_written, sign_written, then_written, token_of, word_at}
-use Rattle.ddl_text.proofs.SettingTexts.{Settings, no_flag_value, setting_more, short_value, strategy_value, whole_value}
+use Rattle.ddl_text.proofs.Spelt.{Writes, apart_blank, apart_close, apart_open, at_text, blank_first, fit, is_bare, keyword_written, last_of, made_written, nothing_written, sign_written, then_written, token_of, word_at}
+use Rattle.ddl_text.proofs.SettingTexts.{no_flag_value, setting_more, short_value, strategy_value, whole_value}
 use Rattle.ddl_text.proofs.SourceTexts.{kept_whole}
 
 pub brackets_written : (section : Section) (settings : List Setting) (text rest : List ℕ) → Writes text (AreSettings section settings) (41 ∷ rest) → Writes (40 ∷ text) (AreSettingsInBrackets section settings) rest

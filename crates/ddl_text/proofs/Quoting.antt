@@ -1,6 +1,6 @@
 -- Names, texts and numbers are written as one token each.
-use Rattle.std.proofs.Common.{◌≡◌, ◌≢◌, ◌<◌, ◌^◌, ◌≤◌, ◌/◌, ◌%◌, ℕ, zero, suc, ◌+◌, Bool, true, false, cond, List, [], ◌∷◌, ◌++◌, length, Option, Some, None, Result, Ok, Err, refl, sym, ap, subst, ◌∙◌, inl, inr, arith, decimal, ℤ, pos, negsuc, unsigned_abs, append-nil, append_assoc, lt-ltb}
-use Rattle.std.specs.Prelude.{◌==◌, ◌&&◌, codes, nat_le}
+use Rattle.std.proofs.Common.{◌≡◌, ◌≢◌, ◌<◌, ◌^◌, ◌≤◌, ◌/◌, ◌%◌, ℕ, zero, suc, ◌+◌, Bool, true, false, cond, List, [], ◌∷◌, ◌++◌, length, Option, Some, None, Result, Ok, refl, sym, ap, subst, ◌∙◌, inl, inr, arith, decimal, ℤ, pos, negsuc, unsigned_abs, append-nil, append_assoc, lt-ltb}
+use Rattle.std.specs.Prelude.{◌==◌, ◌&&◌, nat_le}
 use Rattle.std.specs.List.{AllByRecursion, flat_map}
 use Rattle.std.specs.Str.{all_ascii_digits}
 use Rattle.std.specs.Char.{is_ascii_digit}
@@ -10,22 +10,20 @@ use Rattle.std.specs.Option.{option_and_then}
 use Rattle.std.proofs.lemmas.Bool.{cond-true, eqb-true, eqb-false, le-leb}
 use Rattle.std.proofs.lemmas.Bool.Decides.{nat_tests}
 use Rattle.dict_value.specs.Escapes.{unescaped}
-use Rattle.dict_value.specs.Numbers.{given, below, unsigned_in, unsigned_of}
-use Rattle.dict_value.specs.declared.value.BadValue.TheVariants.{NotANumber}
+use Rattle.dict_value.specs.Numbers.{unsigned_of}
 use Rattle.dict_value.specs.Decimals.{decimal_text, fraction_text, last_digits, sign_text, without_end_zeros}
 use Rattle.dict_value.specs.declared.letters.TheConstants.{BACKSLASH, BACKSPACE, CARRIAGE_RETURN, DIGIT_0, FORM_FEED, LETTER_B, LETTER_F, LETTER_N, LETTER_R, LETTER_T, LINE_FEED, NUL, TAB}
 use Rattle.dict_value.proofs.Digits.{both, digit_value_of}
 use Rattle.dict_value.proofs.WrittenNumbers.{decimal_digits, unsigned_again}
 use Rattle.ddl_tokens.specs.declared.fault.SyntaxFault.{SyntaxFault}
-use Rattle.ddl_tokens.specs.declared.token.TokenKind.{TokenKind}
 use Rattle.ddl_tokens.specs.declared.token.TokenKind.TheVariants.{QuotedWord, Number, String}
-use Rattle.ddl_tokens.specs.Letters.{is_digit, is_quote}
+use Rattle.ddl_tokens.specs.Letters.{is_digit}
 use Rattle.ddl_tokens.specs.Quoted.{StandsFor, nothing, itself, escaped}
 use Rattle.ddl_tokens.specs.Tokens.{Token, AreDigits, IsNumberSign, IsToken, whole, fraction, quoted}
 use Rattle.ddl_tokens.specs.Laws.{IsOne}
 use Rattle.ddl_clauses.specs.Choices.{whole_in}
 use Rattle.ddl_writing.specs.Canonical.{as_string}
-use Rattle.ddl_writing.specs.Quoted.{byte_in_quotes, in_quotes, letter_in_quotes, name_text, string_text, with_letter}
+use Rattle.ddl_writing.specs.Quoted.{byte_in_quotes, letter_in_quotes, name_text, string_text, with_letter}
 use Rattle.ddl_text.proofs.Spelt.{Apart, Spells, one_at, token_of}
 
 -- ---- in quotes

@@ -1,6 +1,6 @@
 -- What a sound definition has, so that its columns, keys and range are made of its text again.
-use Rattle.std.proofs.Common.{◌≡◌, ◌≢◌, ◌<◌, ◌≤◌, ◌^◌, ◌+◌, ◌⊎◌, ℕ, zero, suc, Bool, true, false, cond, not, List, [], ◌∷◌, ◌++◌, length, map, All, Option, Some, None, ℤ, refl, sym, ap, subst, ◌∙◌, inl, inr, arith}
-use Rattle.std.specs.Prelude.{◌&&◌, ◌||◌, IsTrue, slice_get, unsigned_abs}
+use Rattle.std.proofs.Common.{◌≡◌, ◌≢◌, ◌<◌, ◌^◌, ◌+◌, ℕ, zero, suc, Bool, true, false, cond, not, List, [], ◌∷◌, ◌++◌, length, map, All, Option, Some, None, refl, sym, ap, subst, ◌∙◌, inl, inr, arith}
+use Rattle.std.specs.Prelude.{◌&&◌, ◌||◌, slice_get}
 use Rattle.std.specs.List.{AllByRecursion}
 use Rattle.std.proofs.lemmas.Bool.{cases_Bool, cases_lt, cond-true, cond-false}
 use Rattle.std.proofs.lemmas.Option.{slice_get_within}
@@ -16,13 +16,11 @@ use Rattle.dict_schema.specs.declared.definition.Definition.{Definition}
 use Rattle.dict_schema.specs.declared.definition.RangeOf.{RangeOf}
 use Rattle.dict_schema.specs.declared.definition.RangeOf.TheVariants as range
 use Rattle.dict_schema.specs.declared.fault.DefFault.TheVariants as fault
-use Rattle.dict_schema.specs.Judging.{AreClear, IsClear, Numbered, Rule, Where}
+use Rattle.dict_schema.specs.Judging.{AreClear, Numbered, Where}
 use Rattle.dict_schema.specs.Parts.{HasRange, column_names, is_attribute, is_key, is_range_end, is_range_layout}
 use Rattle.dict_schema.specs.Table.{IsDuplicate, IsMissingKey, IsNamedBefore, NamesWithin, attributes, counts, keys, ranges, settings, sources, table}
 use Rattle.ddl_tokens.specs.declared.letters.LetterCase.TheVariants.{AsWritten}
-use Rattle.ddl_tokens.specs.Letters.{same_letters}
 use Rattle.ddl_tokens.proofs.Laws.{same_itself}
-use Rattle.ddl_clauses.specs.declared.clause.RangeNames.{RangeNames}
 use Rattle.ddl_writing.proofs.Defaults.{clear_at, clear_behind, clear_front, within}
 use Rattle.ddl_text.specs.Items.{is_misfit, is_set_apart, key_places, place_from, place_of_column, range_of, same_name, settled, settled_from, with_default}
 use Rattle.ddl_text.proofs.Same.{same_bytes}

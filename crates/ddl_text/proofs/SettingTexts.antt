@@ -1,34 +1,32 @@
 -- Settings are written by their grammar.
-use Rattle.std.proofs.Common.{◌≡◌, ◌<◌, ◌≤◌, ◌^◌, ◌+◌, ℕ, Bool, true, false, cond, List, [], ◌∷◌, ◌++◌, Option, Some, None, Result, Ok, Err, refl, sym, ap, subst, ◌∙◌, inl, arith, decimal, append_assoc}
+use Rattle.std.proofs.Common.{◌≡◌, ◌<◌, ◌≤◌, ◌^◌, ℕ, Bool, true, false, cond, List, [], ◌∷◌, ◌++◌, Some, None, refl, ap, inl, arith, decimal}
 use Rattle.std.specs.Prelude.{codes, IsTrue}
 use Rattle.dict_value.specs.declared.value.Format.{Format}
 use Rattle.dict_value.specs.declared.value.Format.TheVariants as format
 use Rattle.dict_schema.specs.declared.definition.Strategy.{Strategy}
 use Rattle.dict_schema.specs.declared.definition.Strategy.TheVariants.{Min, Max}
-use Rattle.ddl_tokens.specs.declared.fault.SyntaxFault.{SyntaxFault}
 use Rattle.ddl_tokens.specs.declared.fault.SyntaxFault.TheVariants.{Unexpected, UnknownSetting, Unsupported}
-use Rattle.ddl_tokens.specs.declared.letters.LetterCase.TheVariants.{Any, AsWritten}
+use Rattle.ddl_tokens.specs.declared.letters.LetterCase.TheVariants.{Any}
 use Rattle.ddl_tokens.specs.declared.token.TokenKind.TheVariants.{Word, Number, String}
 use Rattle.ddl_tokens.specs.Letters.{same_letters}
 use Rattle.ddl_tokens.specs.Tokens.{Token, IsToken, whole}
 use Rattle.ddl_tokens.specs.Reading.{is_name, is_number, is_string}
-use Rattle.ddl_tokens.specs.Laws.{IsBytes, IsOne, judged}
+use Rattle.ddl_tokens.specs.Laws.{judged}
 use Rattle.ddl_tokens.specs.Lists.{AddsOnce, Many, has_number}
 use Rattle.ddl_tokens.proofs.Laws.{same_itself}
 use Rattle.ddl_clauses.specs.declared.settings.Form.TheVariants as form
 use Rattle.ddl_clauses.specs.declared.settings.Section.{Section}
 use Rattle.ddl_clauses.specs.declared.settings.Setting.{Setting}
 use Rattle.ddl_clauses.specs.declared.settings.SettingName.{SettingName}
-use Rattle.ddl_clauses.specs.declared.settings.SettingName.TheVariants as name
 use Rattle.ddl_clauses.specs.declared.settings.SettingValue.{SettingValue}
 use Rattle.ddl_clauses.specs.declared.settings.SettingValue.TheVariants as value
 use Rattle.ddl_clauses.specs.Choices.{bare_name_in, choice, flag_in, format_in, has_bare_form, is_plain_value, is_written, meant_by, most_short, most_whole, no_flag_meant, or_fault, strategy_in, whole_in, word_in}
-use Rattle.ddl_clauses.specs.Grammar.{IsChosen, IsSetting, IsSettingValue, IsWholeUpTo, SettingOf}
+use Rattle.ddl_clauses.specs.Grammar.{IsSetting, IsSettingValue, IsWholeUpTo, SettingOf}
 use Rattle.ddl_clauses.specs.SettingLists.{number_of_setting, setting}
 use Rattle.ddl_clauses.specs.Settings.{form_of, group_of, has_group, setting_number, setting_text}
 use Rattle.ddl_writing.specs.Canonical.{bit_text, format_text}
 use Rattle.ddl_writing.specs.Quoted.{letter_in_quotes, string_text}
-use Rattle.ddl_text.proofs.Spelt.{Apart, Spells, Writes, apart_blank, blank_first, is_bare, made_written, once_more, one_at, then_written, token_of, word_at}
+use Rattle.ddl_text.proofs.Spelt.{Apart, Writes, apart_blank, blank_first, is_bare, made_written, once_more, one_at, then_written, token_of, word_at}
 use Rattle.ddl_text.proofs.Quoting.{number_at, string_at, whole_within}
 
 -- ---- values

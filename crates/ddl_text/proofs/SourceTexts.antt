@@ -1,5 +1,5 @@
 -- Sources are written by their grammar, and mean the source again.
-use Rattle.std.proofs.Common.{◌≡◌, ◌<◌, ◌≤◌, ◌^◌, ◌+◌, ℕ, Bool, true, false, cond, List, [], ◌∷◌, ◌++◌, Option, Some, None, refl, sym, ap, subst, ◌∙◌, arith, decimal, append_assoc, min}
+use Rattle.std.proofs.Common.{◌≡◌, ◌≤◌, ℕ, Bool, true, false, List, [], ◌∷◌, ◌++◌, Some, refl, sym, ap, subst, ◌∙◌, arith, decimal, append_assoc}
 use Rattle.std.specs.Prelude.{codes, IsTrue}
 use Rattle.dict_schema.specs.declared.definition.Kind.{Kind}
 use Rattle.dict_schema.specs.declared.definition.Kind.TheVariants.{Executable, Pool}
@@ -23,15 +23,15 @@ use Rattle.ddl_clauses.specs.declared.settings.SettingName.TheVariants as name
 use Rattle.ddl_clauses.specs.declared.settings.SettingValue.TheVariants as value
 use Rattle.ddl_clauses.specs.Choices.{choice, has_bare_form, meant_by, most_short, or_fault, source_kind_in}
 use Rattle.ddl_clauses.specs.Clauses.{source}
-use Rattle.ddl_clauses.specs.Grammar.{AreSettings, AreSettingsInBrackets, IsSource}
+use Rattle.ddl_clauses.specs.Grammar.{AreSettings, IsSource}
 use Rattle.ddl_clauses.specs.Parts.{kept_short, source_with, value_of_setting}
-use Rattle.ddl_clauses.specs.SettingLists.{has_field_for_lag, number_of_setting, setting, wanted_numbers}
+use Rattle.ddl_clauses.specs.SettingLists.{number_of_setting, setting}
 use Rattle.ddl_clauses.specs.Settings.{has_group, source_section}
 use Rattle.ddl_writing.specs.Canonical.{bit_text, flags_text, format_text, kind_text, pool_text, program_text, settings_text, source_text, times_text, update_text}
 use Rattle.ddl_writing.specs.Quoted.{string_text}
 use Rattle.ddl_writing.specs.Words.{word_text}
 use Rattle.ddl_text.specs.Again.{HasShortTimes}
-use Rattle.ddl_text.proofs.Spelt.{Apart, Spells, Writes, apart_blank, apart_close, apart_open, at_text, blank_first, fit, is_bare, keyword_written, last_of, made_written, sign_written, then_written, token_of, word_at}
+use Rattle.ddl_text.proofs.Spelt.{Apart, Writes, apart_blank, apart_close, apart_open, at_text, blank_first, fit, is_bare, keyword_written, last_of, made_written, sign_written, then_written, token_of, word_at}
 use Rattle.ddl_text.proofs.SettingTexts.{Settings, bare_value, flag_value, format_value, setting_more, short_value, text_value, whole_value}
 
 -- ---- the texts, part by part

@@ -1,5 +1,5 @@
 -- Which tokens a text begins with, part by part.
-use Rattle.std.proofs.Common.{◌≡◌, ℕ, ◌+◌, Bool, true, false, cond, List, [], ◌∷◌, ◌++◌, length, Option, Some, None, Result, Ok, Err, refl, sym, ap, subst, ◌∙◌, inl, inr, append_assoc, arith}
+use Rattle.std.proofs.Common.{◌≡◌, ℕ, ◌+◌, Bool, true, false, cond, List, [], ◌∷◌, ◌++◌, length, Result, Ok, Err, refl, sym, ap, subst, ◌∙◌, inl, inr, append_assoc, arith}
 use Rattle.std.specs.Prelude.{◌==◌, ◌&&◌}
 use Rattle.std.specs.List.{AllByRecursion, list_all}
 use Rattle.std.proofs.lemmas.Bool.{and_parts}
@@ -7,11 +7,11 @@ use Rattle.ddl_tokens.specs.declared.fault.SyntaxFault.{SyntaxFault}
 use Rattle.ddl_tokens.specs.declared.fault.SyntaxFault.TheVariants.{Unexpected}
 use Rattle.ddl_tokens.specs.declared.letters.LetterCase.TheVariants.{Any, AsWritten}
 use Rattle.ddl_tokens.specs.declared.token.TokenKind.{TokenKind}
-use Rattle.ddl_tokens.specs.declared.token.TokenKind.TheVariants.{Word, QuotedWord, Number, String, Sign, Broken, End}
+use Rattle.ddl_tokens.specs.declared.token.TokenKind.TheVariants.{Word, Sign, Broken, End}
 use Rattle.ddl_tokens.specs.Letters.{begins_with, is_word_start, is_word_byte, is_digit, is_sign, same_letters}
-use Rattle.ddl_tokens.specs.Tokens.{Token, AreTokens, IsGap, empty, blank, comment, IsLastGap, IsToken, word as one_word, sign as one_sign, TokensFrom, ends, breaks, next, begins_with_fraction}
+use Rattle.ddl_tokens.specs.Tokens.{Token, AreTokens, empty, blank, IsLastGap, IsToken, word as one_word, sign as one_sign, TokensFrom, ends, breaks, next, begins_with_fraction}
 use Rattle.ddl_tokens.specs.Reading.{is_keyword, is_the_sign}
-use Rattle.ddl_tokens.specs.Laws.{Grammar, IsKeyword, IsNothing, IsOne, IsSign, Made, Optional, Then, judged}
+use Rattle.ddl_tokens.specs.Laws.{IsKeyword, IsOne, IsSign, Made, Then, judged}
 use Rattle.ddl_tokens.specs.Lists.{AddsOnce, Many, Separated, Tail, another, ended, has_number, none, more}
 use Rattle.ddl_tokens.proofs.Laws.{judged_ok, same_itself}
 

@@ -1,6 +1,6 @@
 -- Types and literals are written by their grammar.
-use Rattle.std.proofs.Common.{◌≡◌, ◌≢◌, ◌<◌, ◌≤◌, ◌^◌, ◌+◌, ℕ, Bool, true, false, cond, List, [], ◌∷◌, ◌++◌, length, Option, Some, None, Result, Ok, Err, refl, sym, ap, subst, ◌∙◌, inl, inr, arith, decimal, append_assoc, unsigned_abs, ℤ, pos, negsuc}
-use Rattle.std.specs.Prelude.{codes, IsTrue, ◌&&◌, nat_le}
+use Rattle.std.proofs.Common.{◌≡◌, ◌<◌, ◌≤◌, ◌^◌, ℕ, Bool, true, false, cond, List, ◌∷◌, ◌++◌, Some, None, Result, Ok, Err, refl, sym, ap, ◌∙◌, arith, decimal, append_assoc, unsigned_abs, ℤ, pos, negsuc}
+use Rattle.std.specs.Prelude.{codes, ◌&&◌, nat_le}
 use Rattle.std.specs.List.{AllByRecursion}
 use Rattle.std.specs.Fmt.{signed_decimal}
 use Rattle.std.proofs.lemmas.Bool.{cond-true, le-leb}
@@ -23,22 +23,21 @@ use Rattle.dict_value.proofs.Digits.{few_digits}
 use Rattle.dict_schema.specs.Sound.{IsSoundBase, IsSoundType}
 use Rattle.ddl_tokens.specs.declared.fault.SyntaxFault.{SyntaxFault}
 use Rattle.ddl_tokens.specs.declared.fault.SyntaxFault.TheVariants.{Unsupported}
-use Rattle.ddl_tokens.specs.declared.letters.LetterCase.TheVariants.{Any, AsWritten}
-use Rattle.ddl_tokens.specs.declared.token.TokenKind.TheVariants.{Word, Number, String}
+use Rattle.ddl_tokens.specs.declared.token.TokenKind.TheVariants.{Word, Number}
 use Rattle.ddl_tokens.specs.Letters.{same_letters}
 use Rattle.ddl_tokens.specs.Tokens.{Token}
 use Rattle.ddl_tokens.specs.Reading.{◌>>=◌, is_keyword}
 use Rattle.ddl_tokens.specs.Laws.{IsOne}
-use Rattle.ddl_tokens.specs.Verdicts.{falls, stands, verdict_map}
+use Rattle.ddl_tokens.specs.Verdicts.{falls, stands}
 use Rattle.ddl_columns.specs.declared.types.BaseName.{BaseName}
 use Rattle.ddl_columns.specs.declared.types.BaseName.TheVariants as base
 use Rattle.ddl_columns.specs.declared.types.TypeName.{TypeName}
 use Rattle.ddl_columns.specs.declared.types.TypeName.TheVariants as name
 use Rattle.ddl_columns.specs.Defaults.{default_given, literal, or_misfit}
-use Rattle.ddl_columns.specs.Grammar.{IsBase, IsBaseBehind, IsDecimal, IsNullable, IsScale, IsType, IsTypeBehind}
-use Rattle.ddl_columns.specs.Types.{base_name, decimal as decimal_type, decimal_named, not_null, not_nullable, nullable, number_named, or_none, plain_named, text_named, type_name, type_named, whole_number, whole_of}
+use Rattle.ddl_columns.specs.Grammar.{IsBase, IsDecimal, IsType}
+use Rattle.ddl_columns.specs.Types.{base_name, decimal as decimal_type, decimal_named, not_null, not_nullable, nullable, number_named, text_named, type_name, type_named, whole_number, whole_of}
 use Rattle.ddl_writing.specs.Canonical.{base_text, decimal_text, literal_text, type_text}
-use Rattle.ddl_text.proofs.Spelt.{Apart, Spells, Writes, apart_blank, apart_close, apart_comma, apart_open, at_text, blank_first, fit, is_bare, keyword_written, made_written, nothing_written, one_at, sign_written, then_at, then_written, token_of, word_at}
+use Rattle.ddl_text.proofs.Spelt.{Apart, Writes, apart_close, apart_comma, apart_open, at_text, blank_first, fit, made_written, nothing_written, one_at, sign_written, then_at, then_written, token_of, word_at}
 use Rattle.ddl_text.proofs.Quoting.{IsPlain, number_at, plain_at, scaled_written, signed_token, string_at, whole_read}
 use Rattle.ddl_text.proofs.ValueTexts.{plain_day, plain_id, plain_second, plain_v4, plain_v6}
 

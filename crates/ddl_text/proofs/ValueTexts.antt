@@ -1,21 +1,19 @@
 -- The texts of values that stand in quotes have no byte to escape.
-use Rattle.std.proofs.Common.{◌≡◌, ◌≢◌, ◌<◌, ◌≤◌, ◌^◌, ◌/◌, ◌%◌, ◌+◌, ◌-◌, ◌⊎◌, ℕ, zero, suc, Bool, true, false, cond, List, [], ◌∷◌, ◌++◌, get_or, drop, take, All, refl, sym, ap, subst, inl, inr, arith, pos}
-use Rattle.std.specs.Prelude.{◌==◌, codes, nat_lt, slice_index}
+use Rattle.std.proofs.Common.{◌≡◌, ◌<◌, ◌^◌, ◌/◌, ◌%◌, ◌+◌, ℕ, zero, suc, cond, List, [], ◌∷◌, ◌++◌, get_or, drop, take, All, sym, ap, subst, inl, inr, arith, pos}
+use Rattle.std.specs.Prelude.{codes}
 use Rattle.std.specs.List.{AllByRecursion}
 use Rattle.std.specs.Int.{w32, w128, to_be_bytes}
 use Rattle.std.specs.Str.{bytes_eq}
 use Rattle.std.specs.Net.Addr.{octets_of, segments_of}
 use Rattle.std.specs.Net.Text.{hex_groups_text, ipv4_text, ipv6_text}
 use Rattle.std.proofs.lemmas.Bool.{cases_lt, cond_both, lt-ltb, le-ltb}
-use Rattle.std.proofs.lemmas.List.{get_or_past}
 use Rattle.std.proofs.lemmas.List.Elements.{All-from_recursion, All-head, All-tail}
 use Rattle.std.proofs.NetLemmas.Texts.{AllSegments, AllSegments-drop}
 use Rattle.std.proofs.NetLemmas.Alphabet.{All-hex_groups_text, All-ipv4_text, IsDigitOrDot, IsHexOrColon}
 use Rattle.uuid.specs.Text.{by_index, digit_place, hex_digit, is_hyphen_place, lower, nibble}
 use Rattle.jiff_core.proofs.CalendarLemmas.{days_in_month_bounds}
-use Rattle.dict_value.specs.declared.value.ColType.{ColType}
 use Rattle.dict_value.specs.Addresses.{v4_text, v6_text}
-use Rattle.dict_value.specs.Dates.{civil, clock_text, date_text, day_text, second_text, two}
+use Rattle.dict_value.specs.Dates.{civil, clock_text, date_text, day_text, second_text}
 use Rattle.dict_value.specs.Identifiers.{id_text}
 use Rattle.dict_value.proofs.CivilDays.{civil_is, dated}
 use Rattle.ddl_text.proofs.Quoting.{IsPlain}
