@@ -27,7 +27,7 @@ use Rattle.ddl_clauses.specs.Parts.{clause_of_kind, dictionary_parts}
 use Rattle.ddl_writing.specs.Canonical.{column_name_text, comment_text, layout_text, lifetime_text, output_text, range_text, source_text}
 use Rattle.ddl_writing.specs.Quoted.{string_text}
 use Rattle.ddl_writing.specs.Words.{word_text}
-use Rattle.ddl_text.specs.Again.{HasShortTimes, TextHasLifetime}
+use Rattle.ddl_text.specs.Again.{SourceFits, LifetimeFits}
 use Rattle.ddl_text.proofs.Spelt.{Apart, Writes, apart_blank, apart_close, apart_open, at_text, blank_first, fit, keyword_written, last_of, made_written, once_more, sign_written, then_written, token_of, word_at}
 use Rattle.ddl_text.proofs.Quoting.{string_at}
 use Rattle.ddl_text.proofs.ColumnTexts.{HasColumn, name_of_place, place_name_written}
@@ -43,7 +43,7 @@ lifetime_spelled l rest =
     ap (λ (u : List ℕ). codes " LIFETIME(MIN " ++ u)
     (append_assoc (decimal l.min) ((codes " MAX " ++ decimal l.max) ++ codes ")") rest ∙ ap (λ (u : List ℕ). decimal l.min ++ (codes " MAX " ++ u)) (append_assoc (decimal l.max) (codes ")") rest))
 
-lifetime_written : (l : Lifetime) (rest : List ℕ) → TextHasLifetime l → Writes (lifetime_text l ++ rest) (IsLifetime l) rest
+lifetime_written : (l : Lifetime) (rest : List ℕ) → LifetimeFits l → Writes (lifetime_text l ++ rest) (IsLifetime l) rest
 lifetime_written l rest h =
     let last = decimal l.max ++ (41 ∷ rest) in
     let first = decimal l.min ++ (codes " MAX " ++ last) in
@@ -149,18 +149,18 @@ pub record ClausesAgain (d : Definition) (r : RangeOf) (text rest : List ℕ) : 
 
 -- what a definition has to be for its clauses to be read again
 pub record IsClausesAgain (d : Definition) (r : RangeOf) : Type 0 where
-  pub short : HasShortTimes d.source
+  pub short : SourceFits d.source
   pub kept : KindAgain d.source.kind d.source
   pub used : UpdateAgain false d.source.kind d.source.update
   pub layout : IsLayoutAgain d.layout
-  pub lifetime : TextHasLifetime d.lifetime
+  pub lifetime : LifetimeFits d.lifetime
   pub output : d.max_output ≤ most_short
   pub ends : EndsExist d r
 
 abbrev first_clauses : WrittenSource → WrittenLayout → Lifetime → List Clause
 first_clauses source layout lifetime = clause.Source source ∷ clause.Layout layout ∷ clause.Lifetime lifetime ∷ []
 
-first_three : (d : Definition) (behind rest : List ℕ) (c : List Clause) → TextHasLifetime d.lifetime
+first_three : (d : Definition) (behind rest : List ℕ) (c : List Clause) → LifetimeFits d.lifetime
     → (s : SourceAgain Dictionary false d.source.kind d.source.update d.source (layout_text d.layout ++ (lifetime_text d.lifetime ++ behind))) → (l : LayoutAgain d.layout (lifetime_text d.lifetime ++ behind))
     → Writes behind (Clauses (first_clauses (source d.source.kind s.settings) (written_layout l.name l.settings) d.lifetime) c) rest
     → Writes (source_text false d.source ++ (layout_text d.layout ++ (lifetime_text d.lifetime ++ behind))) (Clauses [] c) rest

@@ -44,7 +44,7 @@ use Rattle.ddl_text.specs.Statements.{dictionary, function, pointed}
 use Rattle.ddl_text.specs.Grammar.{IsBegun, IsStatement}
 use Rattle.ddl_text.specs.Items.{IsTakenItem, count_of, is_named, item_of, key_places, range_of, rules_of, settled_from}
 use Rattle.ddl_text.specs.Files.{AreItems, AreItemsFrom, last}
-use Rattle.ddl_text.specs.Again.{Defines, TextHas, TextHasDefinition, TextHasFunction, TextHasLayout, TextHasPool, TextHasUpdate}
+use Rattle.ddl_text.specs.Again.{Defines, DefinitionFits, LagFits, LayoutFits, NumbersFit, SourceFits, TextHas, TextHasDefinition, TextHasFunction, TextHasLayout, TextHasPool, TextHasUpdate}
 use Rattle.ddl_text.proofs.Spelt.{Apart, Spells, Writes, apart_blank, apart_end, at_text, blank_first, fit, is_bare, keyword_written, made_written, nothing_written, then_at, then_written, token_of, whole_text, word_at}
 use Rattle.ddl_text.proofs.TypeTexts.{type_written}
 use Rattle.ddl_text.proofs.ColumnTexts.{AreFrom, AreWritten, HasColumn, IsWritten, arguments_written, columns_written, keys_written, name_of_place, name_written}
@@ -61,9 +61,9 @@ below which least most n clear = elim (cases_lt most n) [
   | inr low ↦ low
 ]
 
-kind_again : (k : Kind) (s : SourceOf) → s.pool_size ≤ 1024 → TextHasPool k s → KindAgain k s
-kind_again Executable s small h = h
-kind_again Pool s small h = (omega (arith, small), h)
+kind_again : (k : Kind) (s : SourceOf) → s.pool_size ≤ 1024 → s.execution_s ≤ most_short → TextHasPool k s → KindAgain k s
+kind_again Executable s small short h = h
+kind_again Pool s small short h = (omega (arith, small), short)
 
 keyed_not_updated : (l : Layout) → is_keyed_layout l ≡ true → is_updated_layout l ≡ false
 keyed_not_updated (layout.Flat initial most) e = absurd cc
@@ -75,30 +75,30 @@ keyed_not_updated layout.ComplexSparseHashed e = absurd cc
 keyed_not_updated layout.ComplexHashedArray e = absurd cc
 keyed_not_updated l e = refl
 
-update_again : (k : Kind) (u : Update) → (k ≡ Pool → u ≢ update.None → ⊥) → TextHasUpdate u → UpdateAgain false k u
-update_again k update.None none h = tt
-update_again Executable (update.Field name lag) none h = h
-update_again Pool (update.Field name lag) none h = none refl (λ e. absurd cc)
+update_again : (k : Kind) (u : Update) → (k ≡ Pool → u ≢ update.None → ⊥) → LagFits u → TextHasUpdate u → UpdateAgain false k u
+update_again k update.None none fits h = tt
+update_again Executable (update.Field name lag) none fits h = (h, fits)
+update_again Pool (update.Field name lag) none fits h = none refl (λ e. absurd cc)
 
 no_update : (k : Kind) (u : Update) → (u ≢ update.None → ⊥) → UpdateAgain true k u
 no_update k update.None none = tt
 no_update k (update.Field name lag) none = absurd (none (λ e. absurd cc))
 
-layout_again_of : (l : Layout) → IsClear (LayoutWithin l) → TextHasLayout l → IsLayoutAgain l
-layout_again_of (layout.Flat initial most) clear h = let b = below which.ArraySize 1 16777216 most clear in (h, omega (arith, b))
-layout_again_of layout.Hashed clear h = tt
-layout_again_of layout.SparseHashed clear h = tt
-layout_again_of layout.HashedArray clear h = tt
-layout_again_of layout.ComplexHashed clear h = tt
-layout_again_of layout.ComplexSparseHashed clear h = tt
-layout_again_of layout.ComplexHashedArray clear h = tt
-layout_again_of (layout.RangeHashed strategy) clear h = tt
-layout_again_of (layout.ComplexRangeHashed strategy) clear h = tt
-layout_again_of layout.IpTrie clear h = tt
-layout_again_of (layout.Cache cache) clear h = h
-layout_again_of (layout.ComplexCache cache) clear h = h
-layout_again_of layout.Direct clear h = tt
-layout_again_of layout.ComplexDirect clear h = tt
+layout_again_of : (l : Layout) → IsClear (LayoutWithin l) → LayoutFits l → TextHasLayout l → IsLayoutAgain l
+layout_again_of (layout.Flat initial most) clear fits h = let b = below which.ArraySize 1 16777216 most clear in (fits, omega (arith, b))
+layout_again_of layout.Hashed clear fits h = tt
+layout_again_of layout.SparseHashed clear fits h = tt
+layout_again_of layout.HashedArray clear fits h = tt
+layout_again_of layout.ComplexHashed clear fits h = tt
+layout_again_of layout.ComplexSparseHashed clear fits h = tt
+layout_again_of layout.ComplexHashedArray clear fits h = tt
+layout_again_of (layout.RangeHashed strategy) clear fits h = tt
+layout_again_of (layout.ComplexRangeHashed strategy) clear fits h = tt
+layout_again_of layout.IpTrie clear fits h = tt
+layout_again_of (layout.Cache cache) clear fits h = record { fits = fits; expired = h }
+layout_again_of (layout.ComplexCache cache) clear fits h = record { fits = fits; expired = h }
+layout_again_of layout.Direct clear fits h = tt
+layout_again_of layout.ComplexDirect clear fits h = tt
 
 pool_not_updated : (d : Definition) → AreClear (table d) → d.source.kind ≡ Pool → d.source.update ≢ update.None → ⊥
 pool_not_updated d clear pool some = elim (cases_Bool (is_keyed_layout d.layout)) [
@@ -106,16 +106,16 @@ pool_not_updated d clear pool some = elim (cases_Bool (is_keyed_layout d.layout)
   | inr other ↦ (clear_sources d clear).0 fault.PoolNeedsKeys (refl, (pool, other))
 ]
 
-is_clauses_again : (d : Definition) → AreClear (table d) → TextHasDefinition d → IsClausesAgain d d.range
-is_clauses_again d clear h =
+is_clauses_again : (d : Definition) → AreClear (table d) → TextHasDefinition d → DefinitionFits d → IsClausesAgain d d.range
+is_clauses_again d clear h fits =
     let c = clear_settings d clear in
     let output = below which.Output 1 134217728 d.max_output c.1.0 in
     record {
-      short = h.source.times;
-      kept = kind_again d.source.kind d.source (below which.PoolSize 0 1024 d.source.pool_size c.1.1.1.0) h.source.pool;
-      used = update_again d.source.kind d.source.update (pool_not_updated d clear) h.source.update;
-      layout = layout_again_of d.layout c.1.1.0 h.layout;
-      lifetime = h.lifetime;
+      short = fits.source;
+      kept = kind_again d.source.kind d.source (below which.PoolSize 0 1024 d.source.pool_size c.1.1.1.0) fits.source.execution h.source.pool;
+      used = update_again d.source.kind d.source.update (pool_not_updated d clear) fits.source.lag h.source.update;
+      layout = layout_again_of d.layout c.1.1.0 fits.layout h.layout;
+      lifetime = fits.lifetime;
       output = omega (arith, output);
       ends = ends_exist d d.range clear refl;
     }
@@ -196,10 +196,10 @@ made_again d clauses place clear h =
       comment = clauses.comment_is i;
     })
 
-definition_stated : (d : Definition) → IsSound d → TextHasDefinition d → Stated (item.Dictionary d) (definition_text d)
-definition_stated d sound h =
+definition_stated : (d : Definition) → IsSound d → TextHasDefinition d → DefinitionFits d → Stated (item.Dictionary d) (definition_text d)
+definition_stated d sound h fits =
     let behind = source_text false d.source ++ (layout_text d.layout ++ (lifetime_text d.lifetime ++ (range_text d d.range ++ (output_text d.max_output ++ (comment_text d.comment ++ []))))) in
-    let clauses = clauses_again d d.range d.comment [] (is_clauses_again d sound.clear h) apart_end in
+    let clauses = clauses_again d d.range d.comment [] (is_clauses_again d sound.clear h fits) apart_end in
     let place = (token_of 0 Word (codes "CREATE")).place in
     let names = map (name_of_place d) d.keys in
     let keys = codes " PRIMARY KEY " ++ (keys_text d d.keys ++ (32 ∷ behind)) in
@@ -251,14 +251,14 @@ clear_function_source f clear =
     (clear_behind (NamesWithin (argument_names f)) (function_settings f ++ (arguments f ++ source_rules f))
     (clear_behind (function_counts f) (NamesWithin (argument_names f) ++ (function_settings f ++ (arguments f ++ source_rules f))) clear)))
 
-function_stated : (f : FunctionDef) → IsSoundFunction f → TextHasFunction f → Stated (item.Function f) (function_text f)
-function_stated f sound h =
+function_stated : (f : FunctionDef) → IsSoundFunction f → TextHasFunction f → SourceFits f.source → Stated (item.Function f) (function_text f)
+function_stated f sound h fits =
     let c = clear_function_settings f sound.clear in
     let most = below which.Output 1 134217728 f.max_output c.1.0 in
     let pool = below which.PoolSize 0 1024 f.source.pool_size c.1.1.0 in
     let small : f.max_output ≤ most_short = omega (arith, most) in
     let output = output_text f.max_output ++ [] in
-    let s = function_source f.source.kind f.source.update f.source output h.source.times (kind_again f.source.kind f.source pool h.source.pool) h.implicit
+    let s = function_source f.source.kind f.source.update f.source output fits (kind_again f.source.kind f.source pool fits.execution h.source.pool) h.implicit
     (no_update f.source.kind f.source.update (λ some. (clear_function_source f sound.clear).1.0 fault.UpdateLayout (refl, (refl, some)))) in
     let behind = 32 ∷ (source_text true f.source ++ output) in
     let place = (token_of 0 Word (codes "EXECUTABLE")).place in
@@ -289,9 +289,9 @@ function_stated f sound h =
 
 -- ---- items
 
-stated : (i : Item) → IsSoundItem i → TextHas i → Stated i (item_text i)
-stated (item.Dictionary d) sound h = definition_stated d sound h
-stated (item.Function f) sound h = function_stated f sound h
+stated : (i : Item) → IsSoundItem i → TextHas i → NumbersFit i → Stated i (item_text i)
+stated (item.Dictionary d) sound h fits = definition_stated d sound h fits
+stated (item.Function f) sound h fits = function_stated f sound h fits
 
 rules_clear : (i : Item) → IsSoundItem i → AreClear (rules_of i)
 rules_clear (item.Dictionary d) sound = sound.clear
@@ -305,9 +305,9 @@ makes_it : (i : Item) (statement : Statement) → IsSoundItem i → item_of stat
 unfolding AreItemsFrom count_of
 makes_it i statement sound e = ((refl, subst (λ (x : Item). IsTakenItem [] x) (sym e) (taken i sound)), ap (λ (x : Item). x ∷ []) e)
 
-pub read_as_itself : (i : Item) → IsSoundItem i → TextHas i → Defines (item_text i) (i ∷ [])
-read_as_itself i sound h =
-    let s = stated i sound h in
+pub read_as_itself : (i : Item) → IsSoundItem i → TextHas i → NumbersFit i → Defines (item_text i) (i ∷ [])
+read_as_itself i sound h fits =
+    let s = stated i sound h fits in
     let w = whole_text (item_text i) (IsStatement (stands s.statement)) s.written in
     let end : Token = record { place = w.place; kind = End; bytes = [] } in
     (w.own ++ end ∷ [], w.are, record {

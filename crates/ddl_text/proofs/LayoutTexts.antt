@@ -29,7 +29,7 @@ use Rattle.ddl_clauses.specs.Parts.{layout_with, value_of_setting}
 use Rattle.ddl_clauses.specs.SettingLists.{setting}
 use Rattle.ddl_writing.specs.Canonical.{bit_text, cache_text, flat_text, kept_text, layout_text, strategy_text}
 use Rattle.ddl_writing.specs.Words.{word_text}
-use Rattle.ddl_text.specs.Again.{TextHasCache}
+use Rattle.ddl_text.specs.Again.{CacheFits}
 use Rattle.ddl_text.proofs.Spelt.{Writes, apart_blank, apart_close, apart_open, at_text, blank_first, fit, is_bare, keyword_written, last_of, made_written, nothing_written, sign_written, then_written, token_of, word_at}
 use Rattle.ddl_text.proofs.SettingTexts.{no_flag_value, setting_more, short_value, strategy_value, whole_value}
 use Rattle.ddl_text.proofs.SourceTexts.{kept_whole}
@@ -87,6 +87,11 @@ flat_written initial most rest small few =
     (setting_more name.InitialArraySize (value.Short initial) refl refl refl (short_value initial (codes " MAX_ARRAY_SIZE " ++ (decimal most ++ (41 ∷ rest))) small (apart_blank _))
     (blank_first (setting_more name.MaxArraySize (value.Whole most) refl refl refl (whole_value most (41 ∷ rest) (omega (arith, few)) (apart_close rest)) (last_of _ (41 ∷ rest))))))
 
+-- which caches are read again
+pub record IsCacheAgain (cache : CacheSet) : Type 0 where
+  pub fits : CacheFits cache
+  pub expired : cache.expired ≡ false
+
 abbrev cache_settings : CacheSet → List Setting
 cache_settings cache = setting name.SizeInCells (value.Whole cache.cells) ∷ setting name.ReadExpired (value.Flag false) ∷ setting name.UpdateQueue (value.Short cache.queue) ∷ []
 
@@ -99,23 +104,23 @@ cache_spelled cache rest e =
     ∙ append_assoc (decimal cache.cells) (codes " ALLOW_READ_EXPIRED_KEYS 0" ++ ((codes " MAX_UPDATE_QUEUE_SIZE " ++ decimal cache.queue) ++ codes ")")) rest
     ∙ ap (λ (u : List ℕ). decimal cache.cells ++ (codes " ALLOW_READ_EXPIRED_KEYS 0 MAX_UPDATE_QUEUE_SIZE " ++ u)) (append_assoc (decimal cache.queue) (codes ")") rest))
 
-cache_written : (cache : CacheSet) (rest : List ℕ) → TextHasCache cache
+cache_written : (cache : CacheSet) (rest : List ℕ) → IsCacheAgain cache
     → Writes (codes "(SIZE_IN_CELLS " ++ (decimal cache.cells ++ (codes " ALLOW_READ_EXPIRED_KEYS 0 MAX_UPDATE_QUEUE_SIZE " ++ (decimal cache.queue ++ (41 ∷ rest))))) (AreSettingsInBrackets section_of.Cache (cache_settings cache)) rest
 unfolding has_all has_number
 cache_written cache rest h =
     brackets_written section_of.Cache (cache_settings cache) (codes "SIZE_IN_CELLS " ++ (decimal cache.cells ++ (codes " ALLOW_READ_EXPIRED_KEYS 0 MAX_UPDATE_QUEUE_SIZE " ++ (decimal cache.queue ++ (41 ∷ rest))))) rest
     (fit (λ own f. ((f, refl), refl))
-    (setting_more name.SizeInCells (value.Whole cache.cells) refl refl refl (whole_value cache.cells (codes " ALLOW_READ_EXPIRED_KEYS 0 MAX_UPDATE_QUEUE_SIZE " ++ (decimal cache.queue ++ (41 ∷ rest))) h.cells (apart_blank _))
+    (setting_more name.SizeInCells (value.Whole cache.cells) refl refl refl (whole_value cache.cells (codes " ALLOW_READ_EXPIRED_KEYS 0 MAX_UPDATE_QUEUE_SIZE " ++ (decimal cache.queue ++ (41 ∷ rest))) h.fits.cells (apart_blank _))
     (blank_first (setting_more name.ReadExpired (value.Flag false) refl refl refl (no_flag_value (codes " MAX_UPDATE_QUEUE_SIZE " ++ (decimal cache.queue ++ (41 ∷ rest))) (apart_blank _))
-    (blank_first (setting_more name.UpdateQueue (value.Short cache.queue) refl refl refl (short_value cache.queue (41 ∷ rest) h.queue (apart_close rest)) (last_of _ (41 ∷ rest))))))))
+    (blank_first (setting_more name.UpdateQueue (value.Short cache.queue) refl refl refl (short_value cache.queue (41 ∷ rest) h.fits.queue (apart_close rest)) (last_of _ (41 ∷ rest))))))))
 
 -- ---- layouts
 
 -- which layouts are read again
 abbrev pub IsLayoutAgain : Layout → Type 0
 IsLayoutAgain (layout.Flat initial most) = (initial ≤ most_short) × (most ≤ most_short)
-IsLayoutAgain (layout.Cache cache) = TextHasCache cache
-IsLayoutAgain (layout.ComplexCache cache) = TextHasCache cache
+IsLayoutAgain (layout.Cache cache) = IsCacheAgain cache
+IsLayoutAgain (layout.ComplexCache cache) = IsCacheAgain cache
 IsLayoutAgain _ = Unit {0}
 
 -- a layout's name and settings mean it

@@ -30,7 +30,7 @@ use Rattle.ddl_clauses.specs.Settings.{has_group, source_section}
 use Rattle.ddl_writing.specs.Canonical.{bit_text, flags_text, format_text, kind_text, pool_text, program_text, settings_text, source_text, times_text, update_text}
 use Rattle.ddl_writing.specs.Quoted.{string_text}
 use Rattle.ddl_writing.specs.Words.{word_text}
-use Rattle.ddl_text.specs.Again.{HasShortTimes}
+use Rattle.ddl_text.specs.Again.{SourceFits}
 use Rattle.ddl_text.proofs.Spelt.{Apart, Writes, apart_blank, apart_close, apart_open, at_text, blank_first, fit, is_bare, keyword_written, last_of, made_written, sign_written, then_written, token_of, word_at}
 use Rattle.ddl_text.proofs.SettingTexts.{Settings, bare_value, flag_value, format_value, setting_more, short_value, text_value, whole_value}
 
@@ -80,7 +80,7 @@ function_settings s =
     setting name.Command (value.Text s.command) ∷ setting name.Format (value.Format s.format) ∷ setting name.ExecuteDirect (value.Flag s.direct)
     ∷ setting name.SendChunkHeader (value.Flag s.header) ∷ setting name.ReadTimeout (value.Short s.read_ms) ∷ setting name.WriteTimeout (value.Short s.write_ms) ∷ setting name.TerminationTimeout (value.Short s.end_s) ∷ []
 
-dictionary_first : (section : Section) (s : SourceOf) (c : List Setting) (mid rest : List ℕ) → IsTrue (has_group section group.Run) → IsTrue (has_group section group.Implicit) → HasShortTimes s → Apart mid
+dictionary_first : (section : Section) (s : SourceOf) (c : List Setting) (mid rest : List ℕ) → IsTrue (has_group section group.Run) → IsTrue (has_group section group.Implicit) → SourceFits s → Apart mid
     → Writes mid (Settings section (dictionary_settings s) c) rest → Writes (program_text s ++ (flags_text false s ++ (times_text s ++ mid))) (Settings section [] c) rest
 unfolding has_number
 dictionary_first section s c mid rest run implicit short apart h =
@@ -96,7 +96,7 @@ dictionary_first section s c mid rest run implicit short apart h =
     (blank_first (setting_more name.WriteTimeout (value.Short s.write_ms) run refl refl (short_value s.write_ms (codes " command_termination_timeout " ++ (decimal s.end_s ++ mid)) short.write (apart_blank _))
     (blank_first (setting_more name.TerminationTimeout (value.Short s.end_s) run refl refl (short_value s.end_s mid short.end apart) h)))))))))))))))))
 
-function_first : (section : Section) (s : SourceOf) (c : List Setting) (mid rest : List ℕ) → IsTrue (has_group section group.Run) → HasShortTimes s → Apart mid
+function_first : (section : Section) (s : SourceOf) (c : List Setting) (mid rest : List ℕ) → IsTrue (has_group section group.Run) → SourceFits s → Apart mid
     → Writes mid (Settings section (function_settings s) c) rest → Writes (program_text s ++ (flags_text true s ++ (times_text s ++ mid))) (Settings section [] c) rest
 unfolding has_number
 function_first section s c mid rest run short apart h =
@@ -187,7 +187,7 @@ settings_spelled p f t e rest = append_assoc p (f ++ (t ++ e)) rest ∙ ap (λ (
 pub kept_whole : (n : ℕ) → n ≤ most_short → n ≡ kept_short n
 kept_whole n small = omega (arith, small)
 
-pub dictionary_source : (k : Kind) (u : Update) (s : SourceOf) (rest : List ℕ) → HasShortTimes s → KindAgain k s → UpdateAgain false k u → SourceAgain Dictionary false k u s rest
+pub dictionary_source : (k : Kind) (u : Update) (s : SourceOf) (rest : List ℕ) → SourceFits s → KindAgain k s → UpdateAgain false k u → SourceAgain Dictionary false k u s rest
 unfolding same_letters has_all has_number value_of_setting
 dictionary_source Executable update.None s rest short kept used = record {
   settings = dictionary_settings s;
@@ -221,7 +221,7 @@ dictionary_source Pool update.None s rest short kept used =
     }
 dictionary_source Pool (update.Field field lag) s rest short kept used = absurd used
 
-pub function_source : (k : Kind) (u : Update) (s : SourceOf) (rest : List ℕ) → HasShortTimes s → KindAgain k s → s.implicit ≡ false → UpdateAgain true k u → SourceAgain Function true k u s rest
+pub function_source : (k : Kind) (u : Update) (s : SourceOf) (rest : List ℕ) → SourceFits s → KindAgain k s → s.implicit ≡ false → UpdateAgain true k u → SourceAgain Function true k u s rest
 unfolding same_letters has_all has_number value_of_setting
 function_source Executable update.None s rest short kept none used = record {
   settings = function_settings s;

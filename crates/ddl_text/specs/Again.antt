@@ -20,43 +20,27 @@ use Rattle.ddl_tokens.specs.Tokens.{Token, AreTokens}
 use Rattle.ddl_clauses.specs.Choices.{has_bare_form, most_short, most_whole}
 use Rattle.ddl_text.specs.Files.{IsDefined}
 
--- ---- items whose text has all that they say; their numbers are those of their types, of 32 bits or of 64
-
-pub record HasShortTimes (s : SourceOf) : Type 0 where
-  pub read : s.read_ms ≤ most_short
-  pub write : s.write_ms ≤ most_short
-  pub end : s.end_s ≤ most_short
+-- ---- items whose text has all that they say
 
 -- The text of a pool alone has a size and a time; reading gives other sources 16 and 10.
 abbrev pub TextHasPool : Kind → SourceOf → Type 0
 TextHasPool Executable s = (s.pool_size ≡ 16) × (s.execution_s ≡ 10)
-TextHasPool Pool s = s.execution_s ≤ most_short
+TextHasPool Pool s = ⊤
 
 -- The name of an update field is a bare word.
 abbrev pub TextHasUpdate : Update → Type 0
 TextHasUpdate update.None = ⊤
-TextHasUpdate (update.Field name lag) = (has_bare_form name ≡ true) × (lag ≤ most_short)
+TextHasUpdate (update.Field name lag) = has_bare_form name ≡ true
 
 pub record TextHasSource (s : SourceOf) : Type 0 where
-  pub times : HasShortTimes s
   pub pool : TextHasPool s.kind s
   pub update : TextHasUpdate s.update
 
 -- No cache answers expired rows, since that isn't read.
-pub record TextHasCache (cache : CacheSet) : Type 0 where
-  pub cells : cache.cells ≤ most_whole
-  pub expired : cache.expired ≡ false
-  pub queue : cache.queue ≤ most_short
-
 abbrev pub TextHasLayout : Layout → Type 0
-TextHasLayout (layout.Flat initial most) = initial ≤ most_short
-TextHasLayout (layout.Cache cache) = TextHasCache cache
-TextHasLayout (layout.ComplexCache cache) = TextHasCache cache
+TextHasLayout (layout.Cache cache) = cache.expired ≡ false
+TextHasLayout (layout.ComplexCache cache) = cache.expired ≡ false
 TextHasLayout _ = ⊤
-
-pub record TextHasLifetime (l : Lifetime) : Type 0 where
-  pub min : l.min ≤ most_short
-  pub max : l.max ≤ most_short
 
 -- Keys and the ends of the range have the defaults of their types.
 pub record TextHasDefinition (d : Definition) : Type 0 where
@@ -64,7 +48,6 @@ pub record TextHasDefinition (d : Definition) : Type 0 where
       → is_attribute d place ≡ false → column.default ≡ default_of_column column.ty
   pub source : TextHasSource d.source
   pub layout : TextHasLayout d.layout
-  pub lifetime : TextHasLifetime d.lifetime
 
 -- A function has no implicit key.
 pub record TextHasFunction (f : FunctionDef) : Type 0 where
@@ -74,6 +57,42 @@ pub record TextHasFunction (f : FunctionDef) : Type 0 where
 abbrev pub TextHas : Item → Type 0
 TextHas (item.Dictionary d) = TextHasDefinition d
 TextHas (item.Function f) = TextHasFunction f
+
+-- ---- items whose numbers are those of their types, of 32 bits or of 64
+
+abbrev pub LagFits : Update → Type 0
+LagFits update.None = ⊤
+LagFits (update.Field name lag) = lag ≤ most_short
+
+pub record SourceFits (s : SourceOf) : Type 0 where
+  pub read : s.read_ms ≤ most_short
+  pub write : s.write_ms ≤ most_short
+  pub end : s.end_s ≤ most_short
+  pub execution : s.execution_s ≤ most_short
+  pub lag : LagFits s.update
+
+pub record CacheFits (cache : CacheSet) : Type 0 where
+  pub cells : cache.cells ≤ most_whole
+  pub queue : cache.queue ≤ most_short
+
+abbrev pub LayoutFits : Layout → Type 0
+LayoutFits (layout.Flat initial most) = initial ≤ most_short
+LayoutFits (layout.Cache cache) = CacheFits cache
+LayoutFits (layout.ComplexCache cache) = CacheFits cache
+LayoutFits _ = ⊤
+
+pub record LifetimeFits (l : Lifetime) : Type 0 where
+  pub min : l.min ≤ most_short
+  pub max : l.max ≤ most_short
+
+pub record DefinitionFits (d : Definition) : Type 0 where
+  pub source : SourceFits d.source
+  pub layout : LayoutFits d.layout
+  pub lifetime : LifetimeFits d.lifetime
+
+abbrev pub NumbersFit : Item → Type 0
+NumbersFit (item.Dictionary d) = DefinitionFits d
+NumbersFit (item.Function f) = SourceFits f.source
 
 -- ---- texts
 
