@@ -309,9 +309,12 @@ pub read_as_itself : (i : Item) → IsSoundItem i → TextHas i → NumbersFit i
 read_as_itself i sound h fits =
     let s = stated i sound h fits in
     let w = whole_text (item_text i) (IsStatement (stands s.statement)) s.written in
-    let end : Token = record { place = w.place; kind = End; bytes = [] } in
-    (w.own ++ end ∷ [], w.are, record {
-      statements = s.statement ∷ [];
-      text = (end ∷ [], record { own = w.own; parts = refl; fits = last s.ends w.fits; stops = refl });
-      made = makes_it i s.statement sound s.makes;
-    })
+    let end : Token = record { place = w.place; kind = End; bytes = [] } in (
+      w.own ++ end ∷ [],
+      w.are,
+      record {
+        statements = s.statement ∷ [];
+        text = (end ∷ [], record { own = w.own; parts = refl; fits = last s.ends w.fits; stops = refl });
+        made = makes_it i s.statement sound s.makes;
+      },
+    )

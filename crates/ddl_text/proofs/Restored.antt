@@ -113,9 +113,10 @@ key_within d place key clear found = elim (cases_lt key (length d.columns)) [
 
 keys_from : (d : Definition) (place : ℕ) (own : List ℕ) → AreClear (table d) → ((j : ℕ) → slice_get d.keys (place + j) ≡ slice_get own j) → AllByRecursion (HasColumn d) own
 keys_from d place [] clear same = tt
-keys_from d place (key ∷ own) clear same =
-    (column_there d.columns key (key_within d (place + 0) key clear (same 0)),
-    keys_from d (place + 1) own clear (λ j. ap (slice_get d.keys) (let e : place + 1 + j ≡ place + suc j = omega arith in e) ∙ same (suc j)))
+keys_from d place (key ∷ own) clear same = (
+  column_there d.columns key (key_within d (place + 0) key clear (same 0)),
+  keys_from d (place + 1) own clear (λ j. ap (slice_get d.keys) (let e : place + 1 + j ≡ place + suc j = omega arith in e) ∙ same (suc j)),
+)
 
 pub keys_exist : (d : Definition) → AreClear (table d) → AllByRecursion (HasColumn d) d.keys
 keys_exist d clear = keys_from d 0 d.keys clear (λ j. ap (slice_get d.keys) (let e : 0 + j ≡ j = omega arith in e))
@@ -183,9 +184,10 @@ ranged_layout d start end clear e = elim (cases_Bool (is_range_layout d.layout))
 pub ends_exist : (d : Definition) (r : RangeOf) → AreClear (table d) → d.range ≡ r → EndsExist d r
 ends_exist d range.None clear e = tt
 ends_exist d (range.Columns start end) clear e =
-    let lacks = λ (none : HasRange d → ⊥). (clear_ranges d clear).0 fault.RangeMissing (refl, (ranged_layout d start end clear e, none)) in
-    (column_or_none d.columns start (λ gone. lacks (λ h. let k : range.Columns h.start h.end ≡ range.Columns start end = sym h.range ∙ e in let s : h.start ≡ start = cc in let f = h.found_first in let g = ap (slice_get d.columns) s in absurd (cc (f, g, gone)))),
-    column_or_none d.columns end (λ gone. lacks (λ h. let k : range.Columns h.start h.end ≡ range.Columns start end = sym h.range ∙ e in let s : h.end ≡ end = cc in let f = h.found_last in let g = ap (slice_get d.columns) s in absurd (cc (f, g, gone)))))
+    let lacks = λ (none : HasRange d → ⊥). (clear_ranges d clear).0 fault.RangeMissing (refl, (ranged_layout d start end clear e, none)) in (
+      column_or_none d.columns start (λ gone. lacks (λ h. let k : range.Columns h.start h.end ≡ range.Columns start end = sym h.range ∙ e in let s : h.start ≡ start = cc in let f = h.found_first in let g = ap (slice_get d.columns) s in absurd (cc (f, g, gone)))),
+      column_or_none d.columns end (λ gone. lacks (λ h. let k : range.Columns h.start h.end ≡ range.Columns start end = sym h.range ∙ e in let s : h.end ≡ end = cc in let f = h.found_last in let g = ap (slice_get d.columns) s in absurd (cc (f, g, gone)))),
+    )
 
 pub range_again : (d : Definition) (r : RangeOf) → AreClear (table d) → EndsExist d r → r ≡ range_of d.columns (names_of d r)
 range_again d range.None clear h = refl

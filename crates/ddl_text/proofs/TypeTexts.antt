@@ -106,6 +106,7 @@ named t own h = record {
   not_base : (n : TypeName × ℕ) (b : BaseName × ℕ) → not_nullable n ≡ Ok b → n ≡ (name.Base b.0, b.1)
   not_base (name.Nullable, place) b e = absurd cc
   not_base (name.Base c, place) b e = let k : (c, place) ≡ b = cc in ap (λ (x : BaseName × ℕ). (name.Base x.0, x.1)) k
+
   of_base : (r : Result (TypeName × ℕ) SyntaxFault) (b : BaseName × ℕ) → (r >>= not_nullable) ≡ Ok b → r ≡ Ok (name.Base b.0, b.1)
   of_base (Ok n) b e = ap (λ (x : TypeName × ℕ). Ok x) (not_base n b e)
   of_base (Err f) b e = absurd cc

@@ -38,10 +38,28 @@ plain_hyphen : IsPlain 45
 plain_hyphen = (λ e. omega (arith, e), λ e. omega (arith, e))
 
 plain_date : (y m d : ℕ) → y < 10000 → m < 100 → d < 100 → Plain (date_text (civil y m d))
-plain_date y m d year month day =
-    (plain_digit (y / 100 / 10) (omega arith), (plain_digit (y / 100 % 10) (omega arith), (plain_digit (y % 100 / 10) (omega arith), (plain_digit (y % 100 % 10) (omega arith),
-    (plain_hyphen, (plain_digit (m / 10) (omega arith), (plain_digit (m % 10) (omega arith),
-    (plain_hyphen, (plain_digit (d / 10) (omega arith), (plain_digit (d % 10) (omega arith), tt))))))))))
+plain_date y m d year month day = (
+  plain_digit (y / 100 / 10) (omega arith),
+  (
+    plain_digit (y / 100 % 10) (omega arith),
+    (
+      plain_digit (y % 100 / 10) (omega arith),
+      (
+        plain_digit (y % 100 % 10) (omega arith),
+        (
+          plain_hyphen,
+          (
+            plain_digit (m / 10) (omega arith),
+            (
+              plain_digit (m % 10) (omega arith),
+              (plain_hyphen, (plain_digit (d / 10) (omega arith), (plain_digit (d % 10) (omega arith), tt))),
+            ),
+          ),
+        ),
+      ),
+    ),
+  ),
+)
 
 pub plain_day : (n : ℕ) → n < 2 ^ 16 → Plain (day_text n)
 plain_day n small =
@@ -58,10 +76,22 @@ plain_blank : IsPlain 32
 plain_blank = (λ e. omega (arith, e), λ e. omega (arith, e))
 
 plain_clock : (n : ℕ) → n < 86400 → Plain (clock_text n)
-plain_clock n small =
-    (plain_digit (n / 3600 / 10) (omega arith), (plain_digit (n / 3600 % 10) (omega arith),
-    (plain_colon, (plain_digit (n / 60 % 60 / 10) (omega arith), (plain_digit (n / 60 % 60 % 10) (omega arith),
-    (plain_colon, (plain_digit (n % 60 / 10) (omega arith), (plain_digit (n % 60 % 10) (omega arith), tt))))))))
+plain_clock n small = (
+  plain_digit (n / 3600 / 10) (omega arith),
+  (
+    plain_digit (n / 3600 % 10) (omega arith),
+    (
+      plain_colon,
+      (
+        plain_digit (n / 60 % 60 / 10) (omega arith),
+        (
+          plain_digit (n / 60 % 60 % 10) (omega arith),
+          (plain_colon, (plain_digit (n % 60 / 10) (omega arith), (plain_digit (n % 60 % 10) (omega arith), tt))),
+        ),
+      ),
+    ),
+  ),
+)
 
 pub plain_second : (n : ℕ) → n < 2 ^ 32 → Plain (second_text n)
 plain_second n small =
@@ -116,6 +146,7 @@ mapped_plain : Plain (codes "::ffff:")
 mapped_plain = plain_each IsHexOrColon hex_or_colon (codes "::ffff:") (All-from_recursion IsHexOrColon (codes "::ffff:") (colon, (colon, (letter, (letter, (letter, (letter, (colon, tt)))))))) where
   colon : IsHexOrColon 58
   colon = inl (omega arith)
+
   letter : IsHexOrColon 102
   letter = inr (omega arith)
 
