@@ -9,6 +9,7 @@ mod LayoutTexts
 mod ClauseTexts
 mod Restored
 mod ItemTexts
+mod ReadItems
 mod Ahead
 mod NameLaws
 mod StatementLaws

@@ -1,8 +1,10 @@
 // What the canonical text of an item is read as.
-ghost use Rattle.std.specs.Prelude.{[], ◌∷◌};
+ghost use Rattle.std.specs.Prelude.{List, [], ◌∷◌, All};
 ghost use Rattle.dict_schema.specs.declared.definition.Item.{Item};
 ghost use Rattle.dict_schema.specs.Sound.{IsSoundItem};
+ghost use Rattle.ddl_tokens.specs.Tokens.{Token};
 ghost use Rattle.ddl_writing.specs.Canonical.{item_text};
+ghost use Rattle.ddl_text.specs.Files.{IsDefined};
 ghost use Rattle.ddl_text.specs.Again.{CacheFits, Defines, DefinitionFits, LagFits, LayoutFits, LifetimeFits, NumbersFit};
 ghost use Rattle.ddl_text.specs.Again.{SourceFits, TextHas};
 
@@ -14,6 +16,12 @@ use dict_schema::{CacheSet, Definition, Item, Layout, Lifetime, SourceOf, Update
 pub fn canonical_text_is_read()
     ensures { (item : Item) → IsSoundItem item → TextHas item → NumbersFit item
         → Defines (item_text item) (item ∷ []) }
+{}
+
+/// The text of an item that was read has all that it says. So what `parse_definitions` reads is read again
+/// from its canonical text.
+pub fn texts_of_read_items_have_all()
+    ensures { (tokens : List Token) (items : List Item) → IsDefined tokens items → All TextHas items }
 {}
 
 fn lag_fits(update: &Update)

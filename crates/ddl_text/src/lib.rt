@@ -30,7 +30,7 @@ use dict_schema::Item;
 use dict_value::ListOf;
 use fault::FileFault;
 pub use fault::{DdlFault, DdlRefusal, fault_words};
-pub use laws::{canonical_text_is_read, numbers_fit};
+pub use laws::{canonical_text_is_read, numbers_fit, texts_of_read_items_have_all};
 use std::alloc::Global;
 
 /// The items that a definitions file defines, in its order.
