@@ -1,5 +1,5 @@
 -- The text of an item that was read has all that the item says.
-use Rattle.std.proofs.Common.{◌≡◌, ◌≢◌, ◌<◌, ◌+◌, ◌⊎◌, ℕ, zero, suc, Bool, true, false, cond, not, List, [], ◌∷◌, ◌++◌, All, Option, Some, None, Result, Ok, Err, refl, sym, ap, subst, ◌∙◌, inl, inr, arith}
+use Rattle.std.proofs.Common.{◌≡◌, ◌+◌, ℕ, zero, suc, Bool, true, false, cond, not, List, [], ◌∷◌, ◌++◌, All, Option, Some, None, Ok, Err, refl, sym, ap, subst, ◌∙◌, inl, inr, arith}
 use Rattle.std.specs.Prelude.{◌&&◌, ◌||◌, ◌==◌, IsTrue, slice_get, codes}
 use Rattle.std.specs.List.{AllByRecursion}
 use Rattle.std.proofs.lemmas.Bool.{cases_Bool, cond-true, cond-false, eqb-true, and_parts, cond_both}
@@ -11,9 +11,7 @@ use Rattle.dict_value.specs.declared.value.Value.{Value}
 use Rattle.dict_value.specs.declared.value.Value.TheVariants as value_of
 use Rattle.dict_value.specs.Values.{FitsColumn, HasType, default_of_column}
 use Rattle.dict_schema.specs.declared.definition.Column.{Column}
-use Rattle.dict_schema.specs.declared.definition.Definition.{Definition}
 use Rattle.dict_schema.specs.declared.definition.Item.{Item}
-use Rattle.dict_schema.specs.declared.definition.Item.TheVariants as item
 use Rattle.dict_schema.specs.declared.definition.Kind.{Kind}
 use Rattle.dict_schema.specs.declared.definition.Kind.TheVariants.{Executable, Pool}
 use Rattle.dict_schema.specs.declared.definition.RangeOf.{RangeOf}
@@ -23,10 +21,9 @@ use Rattle.dict_schema.specs.Table.{table}
 use Rattle.ddl_tokens.specs.declared.fault.SyntaxFault.{SyntaxFault}
 use Rattle.ddl_tokens.specs.declared.fault.SyntaxFault.TheVariants.{Unexpected}
 use Rattle.ddl_tokens.specs.Tokens.{Token}
-use Rattle.ddl_tokens.specs.Laws.{Begins, Starts, IsKeyword, Made, Then}
+use Rattle.ddl_tokens.specs.Laws.{IsKeyword, Made, Then}
 use Rattle.ddl_tokens.specs.Lists.{AddsOnce, Many, none, more}
 use Rattle.ddl_tokens.specs.Verdicts.{Verdict, stands, falls, verdict_map, Onward, Standing, ThenVerdict}
-use Rattle.ddl_tokens.proofs.Laws.{judged_ok}
 use Rattle.ddl_clauses.specs.declared.clause.Clause.{Clause}
 use Rattle.ddl_clauses.specs.declared.clause.Clause.TheVariants as clause
 use Rattle.ddl_clauses.specs.declared.clause.ClauseKind.{ClauseKind}
@@ -44,12 +41,11 @@ use Rattle.ddl_clauses.specs.declared.settings.Setting.{Setting}
 use Rattle.ddl_clauses.specs.declared.settings.SettingName.{SettingName}
 use Rattle.ddl_clauses.specs.declared.settings.SettingName.TheVariants as name
 use Rattle.ddl_clauses.specs.declared.settings.SettingValue.{SettingValue}
-use Rattle.ddl_clauses.specs.declared.settings.SettingValue.TheVariants as value
-use Rattle.ddl_clauses.specs.Choices.{bare_name_in, choice, flag_in, has_bare_form, is_plain_value, is_written, meant_by, no_flag_meant, or_fault, unless_true}
+use Rattle.ddl_clauses.specs.Choices.{bare_name_in, flag_in, has_bare_form, is_plain_value, is_written, no_flag_meant, or_fault, unless_true}
 use Rattle.ddl_clauses.specs.Clauses.{source, WrittenFunction, clause_number, number_of_clause, or_empty}
-use Rattle.ddl_clauses.specs.Grammar.{AreSettings, IsLayout, IsLayoutSettings, IsSetting, IsSettingValue, IsSource, SettingOf, AreDictionaryClauses, IsDictionaryClause, LeftOutUnless, AreSettingsInBrackets, IsWrittenFunction}
+use Rattle.ddl_clauses.specs.Grammar.{IsLayout, IsLayoutSettings, IsSettingValue, IsSource, AreDictionaryClauses, IsDictionaryClause, LeftOutUnless, AreSettingsInBrackets, IsWrittenFunction}
 use Rattle.ddl_clauses.specs.Layouts.{layout_section}
-use Rattle.ddl_clauses.specs.Parts.{cache_with, clause_of_kind, flag_or, layout_with, short_or, source_with, update_with_lag, value_of_setting, whole_or, written_layout_in, written_source_in, kept_short, dictionary_parts, function_parts}
+use Rattle.ddl_clauses.specs.Parts.{clause_of_kind, flag_or, layout_with, short_or, source_with, update_with_lag, value_of_setting, whole_or, written_layout_in, written_source_in, kept_short, dictionary_parts, function_parts}
 use Rattle.ddl_clauses.specs.SettingLists.{setting}
 use Rattle.ddl_clauses.specs.Settings.{all_settings, form_of, group_of, has_group, setting_number, source_section}
 use Rattle.dict_schema.specs.declared.definition.Arg.{Arg}
@@ -65,7 +61,7 @@ use Rattle.ddl_text.specs.Grammar.{IsDictionary, IsEnding, IsFunction, IsStateme
 use Rattle.ddl_text.specs.Items.{definition_of, is_date, is_misfit, is_set_apart, item_of, item_written, rules_of, settled, settled_from, with_default}
 use Rattle.ddl_text.specs.Files.{AreItemsFrom, IsDefined, IsFile, empty, last, fallen, more as another_one}
 use Rattle.ddl_writing.proofs.Defaults.{defaults_fit}
-use Rattle.ddl_text.specs.Again.{TextHas, TextHasDefinition, TextHasFunction, TextHasLayout, TextHasPool, TextHasSource, TextHasUpdate}
+use Rattle.ddl_text.specs.Again.{TextHas, TextHasLayout, TextHasPool, TextHasSource, TextHasUpdate}
 use Rattle.ddl_text.proofs.SettingTexts.{Settings}
 
 -- ---- settings by their names
@@ -186,9 +182,10 @@ no_pool Function = refl
 
 pool_has : (owner : Owner) (k : Kind) (settings : List Setting) → AreTaken (source_section owner k) settings → TextHasPool k (source_with owner (source k settings))
 pool_has owner Pool settings h = tt
-pool_has owner Executable settings h =
-    (ap (λ (o : Option SettingValue). kept_short (whole_or 16 o)) (not_there (source_section owner Executable) name.PoolSize settings h (no_pool owner)),
-    ap (λ (o : Option SettingValue). short_or 10 o) (not_there (source_section owner Executable) name.ExecutionTime settings h (no_pool owner)))
+pool_has owner Executable settings h = (
+  ap (λ (o : Option SettingValue). kept_short (whole_or 16 o)) (not_there (source_section owner Executable) name.PoolSize settings h (no_pool owner)),
+  ap (λ (o : Option SettingValue). short_or 10 o) (not_there (source_section owner Executable) name.ExecutionTime settings h (no_pool owner)),
+)
 
 of_brackets : (section : Section) (settings : List Setting) (ts : List Token) → AreSettingsInBrackets section settings ts → AreTaken section settings
 of_brackets section settings ts h =
