@@ -36,12 +36,12 @@ floor_in (Some u) = u.core.floor
 
 -- a refused event leaves its dictionary
 step_refused : (judges : Verdicts) (x : WorldDict) (event : WorldEvent) (y : WorldDict) → DictStep judges x event effect.Refused y → y ≡ x
-step_refused judges x (Start d) y t = t.leaves ∙ dict_refused x _ _ (sym t.answers)
-step_refused judges x (StartWith d definition) y t = t.leaves ∙ dict_refused x _ _ (sym t.answers)
-step_refused judges x (Piece d piece) y t = t.leaves ∙ dict_refused x _ _ (sym t.answers)
-step_refused judges x (Finish d ended) y t = t.2.leaves ∙ dict_refused x _ _ (sym t.2.answers)
-step_refused judges x (Publish d) y t = t.leaves ∙ dict_refused x _ _ (sym t.answers)
-step_refused judges x (Post d) y t = t.leaves ∙ dict_refused x _ _ (sym t.answers)
+step_refused judges x (Start d) y t = t.leaves ∙ dict_refused x (Start d) _ (sym t.answers)
+step_refused judges x (StartWith d definition) y t = t.leaves ∙ dict_refused x (StartWith d definition) _ (sym t.answers)
+step_refused judges x (Piece d piece) y t = t.leaves ∙ dict_refused x (Piece d piece) _ (sym t.answers)
+step_refused judges x (Finish d ended) y t = t.2.leaves ∙ dict_refused x (Finish d ended) _ (sym t.2.answers)
+step_refused judges x (Publish d) y t = t.leaves ∙ dict_refused x (Publish d) _ (sym t.answers)
+step_refused judges x (Post d) y t = t.leaves ∙ dict_refused x (Post d) _ (sym t.answers)
 step_refused judges x (Enter c d) y t = absurd t
 step_refused judges x (Learn c d) y t = absurd t
 

@@ -39,14 +39,18 @@ pub All-from_slice_get : {A : Type 0} (P : A → Type 0) (xs : List A) → ((k :
 All-from_slice_get P xs h k d l = h k (get_or xs k d) (slice_get-get_or xs k d l)
 
 -- where a list has one more item, each of its items is that one, or stands in the list so far
-pub split_push : {A : Type 0} (xs : List A) (y : A) (before after : List A) (z : A) → xs ++ y ∷ [] ≡ before ++ z ∷ after → ((rest : List A) × (xs ≡ before ++ z ∷ rest)) ⊎ ((before ≡ xs) × (z ≡ y))
-split_push [] y [] after z e = inr (refl, cc)
-split_push [] y (b ∷ before) after z e =
-    let k : [] ≡ before ++ z ∷ after = cc in absurd (nil_split before after z k)
-split_push (x ∷ xs) y [] after z e = let k : x ≡ z = cc in inl (xs, ap (λ (w : A). w ∷ xs) k)
-split_push (x ∷ xs) y (b ∷ before) after z e =
-    let k : x ≡ b = cc in
-    elim (split_push xs y before after z cc) [
-      | inl r ↦ inl (r.0, ap (λ (w : A). w ∷ xs) k ∙ ap (λ (ws : List A). b ∷ ws) r.1)
-      | inr r ↦ inr (ap (λ (w : A). w ∷ before) (sym k) ∙ ap (λ (ws : List A). x ∷ ws) r.0, r.1)
-    ]
+module _ {A : Type 0} where
+  pub split_push : (xs : List A) (y : A) (before after : List A) (z : A) → xs ++ y ∷ [] ≡ before ++ z ∷ after → ((rest : List A) × (xs ≡ before ++ z ∷ rest)) ⊎ ((before ≡ xs) × (z ≡ y))
+  split_push [] y [] after z e = inr (refl, cc)
+  split_push [] y (b ∷ before) after z e =
+      let k : [] ≡ before ++ z ∷ after = cc in
+      absurd (nil_split before after z k)
+  split_push (x ∷ xs) y [] after z e =
+      let k : x ≡ z = cc in
+      inl (xs, ap (λ (w : A). w ∷ xs) k)
+  split_push (x ∷ xs) y (b ∷ before) after z e =
+      let k : x ≡ b = cc in
+      elim (split_push xs y before after z (cc)) [
+        | inl r ↦ inl (r.0, ap (λ (w : A). w ∷ xs) k ∙ ap (λ (ws : List A). b ∷ ws) r.1)
+        | inr r ↦ inr (ap (λ (w : A). w ∷ before) (sym k) ∙ ap (λ (ws : List A). x ∷ ws) r.0, r.1)
+      ]

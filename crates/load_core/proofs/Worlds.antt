@@ -110,12 +110,12 @@ module _ (judges : Verdicts) (first : World) (past : List WorldEvent) (now next 
       at_dict judges now next (λ n. Start n) e d z (λ event y. IsSound judges first (past ++ event ∷ []) next d y)
       (λ x f n. sound_same judges first past now d x (Start e) next (w.dicts d x f) s (λ q. (tt, refl)) (λ q. tt))
       (λ x y answer f t a. sound_start judges first past now next d x (w.dicts d x f) w.run f y answer t a) s found
-  dict_next (StartWith e definition) s d z found = elim s [
-    | inl h ↦ at_dict judges now next (λ n. StartWith n definition) e d z (λ event y. IsSound judges first (past ++ event ∷ []) next d y)
-      (λ x f n. sound_same judges first past now d x (StartWith e definition) next (w.dicts d x f) s (λ q. (tt, refl)) (λ q. tt))
+  dict_next (StartWith e definition) (inl h) d z found =
+      at_dict judges now next (λ n. StartWith n definition) e d z (λ event y. IsSound judges first (past ++ event ∷ []) next d y)
+      (λ x f n. sound_same judges first past now d x (StartWith e definition) next (w.dicts d x f) (inl h) (λ q. (tt, refl)) (λ q. tt))
       (λ x y answer f t a. sound_start_with judges first past now next d x (w.dicts d x f) w.run f definition y answer (inl (h.0, inl (answer, a))) t a) h.1 found
-    | inr h ↦ sound_same judges first past now d z (StartWith e definition) next (w.dicts d z (ap (λ (v : World). dict_at v d) (sym h.1) ∙ found)) s (λ q. (tt, refl)) (λ q. tt)
-  ]
+  dict_next (StartWith e definition) (inr h) d z found =
+      sound_same judges first past now d z (StartWith e definition) next (w.dicts d z (ap (λ (v : World). dict_at v d) (sym h.1) ∙ found)) (inr h) (λ q. (tt, refl)) (λ q. tt)
   dict_next (Piece e piece) s d z found =
       at_dict judges now next (λ n. Piece n piece) e d z (λ event y. IsSound judges first (past ++ event ∷ []) next d y)
       (λ x f n. sound_same judges first past now d x (Piece e piece) next (w.dicts d x f) s (λ q. (tt, piece_elsewhere d e x.bytes piece n)) (λ q. tt))

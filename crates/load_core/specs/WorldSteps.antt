@@ -44,6 +44,10 @@ pub record Judging : Type 0 where
   pub before : List Former
   pub text : List ℕ
 
+-- a text for this definition, after these entries
+abbrev pub asking : ℕ → List WorldEntry → List ℕ → Judging
+asking definition entries text = record { definition = definition; before = formers entries; text = text }
+
 -- the judge may say this of it
 abbrev pub Says : Verdicts → Judging → Option Cause → Type 0
 Says judges j verdict = judges j.definition j.before j.text verdict
@@ -116,7 +120,7 @@ pub record TakesEvent (x : WorldDict) (event : WorldEvent) (taken : DictEvent) (
 
 -- what a judge is asked of a dictionary's load
 abbrev pub judging : WorldDict → Judging
-judging x = record { definition = x.loading; before = formers x.entries; text = x.bytes }
+judging x = asking x.loading x.entries x.bytes
 
 -- what an event of the world makes of its dictionary x, and how x's core answers
 abbrev pub DictStep : Verdicts → WorldDict → WorldEvent → DictEffect → WorldDict → Type 0

@@ -1,6 +1,6 @@
 // How a world asks a judge.
 ghost use Rattle.std.specs.Prelude.{◌≤◌, length, IfOk};
-ghost use Rattle.load_core.specs.WorldSteps.{Judged, formers, most_bytes};
+ghost use Rattle.load_core.specs.WorldSteps.{Judged, asking, most_bytes};
 
 use crate::dictionary::Ending;
 use crate::flat::{TableFault, accept};
@@ -21,8 +21,7 @@ pub trait Asked: Judge {
         text: &[u8],
     ) -> Result<Ending, NoMemory>
         requires { length text.now ≤ most_bytes }
-        ensures { let judging = record { definition = definition; before = formers entries.now; text = text.now } in
-            IfOk result (λ ending. Judged Self.judges judging ending) };
+        ensures { IfOk result (Judged Self.judges (asking definition entries.now text.now)) };
 }
 
 impl Asked for RowJudge {

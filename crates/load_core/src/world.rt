@@ -184,12 +184,7 @@ impl WorldDict {
     }
 
     /// An event, which is this one of its core, with what it keeps by the answer.
-    fn take(
-        &mut self,
-        alloc: Global,
-        event: &WorldEvent,
-        taken: DictEvent,
-    ) -> Result<(), NoMemory>
+    fn take(&mut self, alloc: Global, event: &WorldEvent, taken: DictEvent) -> Result<(), NoMemory>
         ensures { OnOk result (self.new ≡ dict_after self.old event.now taken) }
     {
         let load = self.core.loads;

@@ -5,6 +5,7 @@ use Rattle.load_core.specs.declared.caller.CallerEvent.{CallerEvent}
 use Rattle.load_core.specs.declared.world.World.{World}
 use Rattle.load_core.specs.declared.world.WorldCaller.{WorldCaller}
 use Rattle.load_core.specs.declared.world.WorldDict.{WorldDict}
+use Rattle.load_core.specs.declared.world.WorldEntry.{WorldEntry}
 use Rattle.load_core.specs.declared.world.WorldEvent.{WorldEvent}
 use Rattle.load_core.specs.declared.world.WorldEvent.TheVariants.{Enter, Learn}
 use Rattle.load_core.specs.WorldSteps.{Verdicts, DictStep, dict_at, with_dict, caller_at, with_caller, knowing}
@@ -19,7 +20,7 @@ DictTurn judges x event y = (answer : DictEffect) × DictStep judges x event ans
 -- its load became an entry
 abbrev pub published_as : WorldDict → ℕ → ℕ → WorldDict
 published_as x number load =
-    let entry = record { number = number; definition = x.loading; bytes = x.bytes; load = load } in
+    let entry : WorldEntry = record { number = number; definition = x.loading; bytes = x.bytes; load = load } in
     record x { definition = x.loading; entries = x.entries ++ entry ∷ [] }
 
 -- it has no more bytes than a load takes

@@ -91,7 +91,10 @@ fn loads_with_other_definitions(rt: HostRuntime) -> Result<(), Fail> {
     let [changed, other] = world.dictionaries.as_slice() else {
         return Err(Fail::from("not two dictionaries"));
     };
-    assert_eq!(rt; (changed.definition, changed.loading, changed.posted), (1, 0, 2));
+    assert_eq!(rt;
+        (changed.definition, changed.loading, changed.posted),
+        (1, 0, 2)
+    );
     assert_eq!(rt; changed.core.cause, LastCause::Of(Cause::Status(1)));
     let [one, two] = changed.entries.as_slice() else {
         return Err(Fail::from("not two entries"));
@@ -100,7 +103,10 @@ fn loads_with_other_definitions(rt: HostRuntime) -> Result<(), Fail> {
     assert_eq!(rt; one.bytes.as_slice(), b"1\ta\n".as_slice());
     assert_eq!(rt; (two.number, two.definition, two.load), (2, 1, 3));
     assert_eq!(rt; two.bytes.as_slice(), b"2\tb\n".as_slice());
-    assert_eq!(rt; (other.definition, other.loading, other.core.loads), (1, 1, 0));
+    assert_eq!(rt;
+        (other.definition, other.loading, other.core.loads),
+        (1, 1, 0)
+    );
     Ok(())
 }
 
