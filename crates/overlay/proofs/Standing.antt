@@ -1,9 +1,9 @@
 -- Which rows stand, row by row.
-use Rattle.std.proofs.Common.{◌≡◌, ◌≢◌, ◌↔◌, ◌⊎◌, ◌+◌, ◌<◌, ◌≤◌, ℕ, zero, suc, List, [], ◌∷◌, ◌++◌, length, map, take, Option, Some, None, Contains, All, refl, sym, ◌∙◌, ap, subst, inl, inr, arith, get_or, slice_get, length-append}
+use Rattle.std.proofs.Common.{◌≡◌, ◌≢◌, ◌↔◌, ◌⊎◌, ◌+◌, ◌<◌, ◌≤◌, ℕ, zero, suc, List, [], ◌∷◌, ◌++◌, length, map, take, Option, Some, None, Contains, All, refl, sym, ◌∙◌, ap, subst, inl, inr, arith, get_or, slice_get, length-append, length-map, ◌-◌}
 use Rattle.std.specs.List.{AllPairs, AllZip}
 use Rattle.std.proofs.lemmas.Bool.{cases_lt, cases_eq}
-use Rattle.std.proofs.lemmas.List.{map_push, map-append}
-use Rattle.std.proofs.lemmas.List.Elements.{Contains-push, Contains-push_cases}
+use Rattle.std.proofs.lemmas.List.{get_or_default, map_push}
+use Rattle.std.proofs.lemmas.List.Elements.{Contains-append_left, Contains-push, Contains-push_cases}
 use Rattle.std.proofs.lemmas.List.Quantifiers.{all_pairs_push}
 use Rattle.std.proofs.lemmas.Option.{none-some, same_Some, slice_get_within, slice_get-get_or, slice_get_past, get_or_from_slice_get}
 use Rattle.dict_value.specs.FindByKey.{HasKeyAt, IsLeastPlace, FindsByKey}
@@ -100,13 +100,27 @@ module _ (keys : List (List Value)) (rows : RowList) (n : ℕ) (standing : RowLi
   pub stand-more : (row : List Value) → IsFirst keys n → slice_get rows n ≡ Some row → StandTo keys rows (n + 1) (standing ++ row ∷ [])
   stand-more row first at = record {
     places = h.places ++ n ∷ [];
-    rising = all_pairs_push (λ earlier later. earlier < later) h.places n h.rising (λ k d l. ((h.those (get_or h.places k d)).0 (k, (l, same-within h.places k d (get_or h.places k d) l))).0);
+    rising = all_pairs_push (λ earlier later. earlier < later) h.places n h.rising (λ k d l. ((h.those (get_or h.places k d)).0 (k, (l, get_or_default h.places k (get_or h.places k d) d l))).0);
     those = λ place. (λ c. elim (Contains-push_cases h.places n place c) [
       | inl old ↦ (let w = (h.those place).0 old in (omega (arith, w.0), w.1))
       | inr e ↦ (omega arith, subst (IsFirst keys) e first)
     ], λ w. elim (cases_eq place n) [
       | inl e ↦ subst (Contains (h.places ++ n ∷ [])) (sym e) (Contains-push h.places n)
-      | inr ne ↦ contains-more h.places n place ((h.those place).1 (omega (arith, w.0), w.1))
+      | inr ne ↦ Contains-append_left h.places (n ∷ []) place ((h.those place).1 (omega (arith, w.0), w.1))
     ]);
     stand = map_push (slice_get rows) h.places n ∙ ap (λ xs. xs ++ slice_get rows n ∷ []) h.stand ∙ ap (λ x. map Some standing ++ x ∷ []) at ∙ sym (map_push Some standing row);
   }
+
+-- what stands of all rows
+pub stand-whole : (keys : ℕ) (rows standing : RowList) → StandTo (keys_of keys rows) rows (length rows) standing → StandOf keys rows standing
+stand-whole keys rows standing h = record {
+  places = h.places;
+  rising = h.rising;
+  those = λ place. (λ c. ((h.those place).0 c).1, λ first. (h.those place).1 (within place first, first));
+  stand = h.stand;
+}
+  where
+    within : (place : ℕ) → IsFirst (keys_of keys rows) place → place < length rows
+    within place (key, first) =
+        let l : place < length (keys_of keys rows) = slice_get_within (keys_of keys rows) place key first.equal in
+        omega (arith, length-map (λ (row : List Value). take keys row) rows, l)
