@@ -1,15 +1,19 @@
 -- Which rows stand, row by row.
-use Rattle.std.proofs.Common.{◌≡◌, ◌≢◌, ◌↔◌, ◌⊎◌, ◌+◌, ◌<◌, ◌≤◌, ℕ, zero, suc, List, [], ◌∷◌, ◌++◌, length, map, take, Option, Some, None, Contains, All, refl, sym, ◌∙◌, ap, subst, inl, inr, arith, get_or, slice_get, length-append, length-map, ◌-◌}
+use Rattle.std.proofs.Common.{◌≡◌, ◌≢◌, ◌↔◌, ◌⊎◌, ◌+◌, ◌<◌, ◌≤◌, ℕ, zero, suc, List, [], ◌∷◌, ◌++◌, length, map, take, Option, Some, None, Contains, All, refl, sym, ◌∙◌, ap, subst, inl, inr, arith, get_or, slice_get, ◌-◌, false}
 use Rattle.std.specs.List.{AllPairs, AllZip}
 use Rattle.std.proofs.lemmas.Bool.{cases_lt, cases_eq}
-use Rattle.std.proofs.lemmas.List.{get_or_default, map_push}
+use Rattle.std.proofs.lemmas.List.{get_or_default, length-map, map_push, take_more}
 use Rattle.std.proofs.lemmas.List.Elements.{Contains-append_left, Contains-push, Contains-push_cases}
 use Rattle.std.proofs.lemmas.List.Quantifiers.{all_pairs_push}
+use Rattle.std.proofs.lemmas.Slice.Zip.{AllZip-long}
 use Rattle.std.proofs.lemmas.Option.{none-some, same_Some, slice_get_within, slice_get-get_or, slice_get_past, get_or_from_slice_get}
 use Rattle.dict_value.specs.FindByKey.{HasKeyAt, IsLeastPlace, FindsByKey}
+use Rattle.dict_value.specs.Values.{FitsColumn}
+use Rattle.dict_value.specs.declared.value.AttrType.{AttrType}
+use Rattle.dict_value.specs.declared.value.ColType.TheVariants.{UInt64}
 use Rattle.dict_value.specs.declared.value.Value.{Value}
 use Rattle.packed_rows.specs.Columns.{RowList}
-use Rattle.overlay.specs.Overlays.{IsFirst, keys_of, StandOf, Overlay}
+use Rattle.overlay.specs.Overlays.{HaveTypes, IsFirst, keys_of, StandOf, Overlay}
 use Rattle.overlay.specs.steps.Standing.{IsFirstBehind, StandTo}
 
 -- a key has one least place
@@ -38,8 +42,15 @@ module _ {A : Type 0} where
   get-front (x ∷ xs) ys (suc n) l = get-front xs ys n (omega arith)
 
   pub get-behind : (xs ys : List A) (n : ℕ) → slice_get (xs ++ ys) (length xs + n) ≡ slice_get ys n
-  get-behind [] ys n = refl
-  get-behind (x ∷ xs) ys n = get-behind xs ys n
+  get-behind [] ys n = ap (slice_get ys) (omega arith)
+  get-behind (x ∷ xs) ys n =
+      let e : length (x ∷ xs) + n ≡ suc (length xs + n) = omega arith in
+      ap (slice_get (x ∷ (xs ++ ys))) e ∙ get-behind xs ys n
+
+  -- the item at a place, behind those before it
+  pub take-more-at : (xs : List A) (n : ℕ) (x : A) → slice_get xs n ≡ Some x → take (n + 1) xs ≡ take n xs ++ x ∷ []
+  take-more-at xs n x e =
+      take_more xs n x (slice_get_within xs n x e) ∙ ap (λ y. take n xs ++ y ∷ []) (get_or_from_slice_get xs n x x e)
 
 -- the first place of a key, with keys behind
 pub first-front : (keys later : List (List Value)) (n : ℕ) → n < length keys → IsFirst (keys ++ later) n ↔ IsFirst keys n
@@ -74,6 +85,43 @@ first-behind others keys n = (there, back)
       ];
     })
 
+-- a row's value at a column, which is of the column's type
+pub record IsThere (types : List AttrType) (rows : RowList) (place column : ℕ) : Type 0 where
+  pub row : List Value
+  pub value : Value
+  pub type_of : AttrType
+  pub row_at : slice_get rows place ≡ Some row
+  pub value_at : slice_get row column ≡ Some value
+  pub type_at : slice_get types column ≡ Some type_of
+  pub fits : FitsColumn type_of value
+
+value-of-type : (types : List AttrType) (row : List Value) (column : ℕ) (t : AttrType) → AllZip FitsColumn types row → slice_get types column ≡ Some t → (value : Value) × (slice_get row column ≡ Some value) × FitsColumn t value
+value-of-type [] row column t z e = absurd (none-some t e)
+value-of-type (a ∷ types) [] column t z e = absurd z
+value-of-type (a ∷ types) (v ∷ row) zero t z e = (v, refl, subst (λ (u : AttrType). FitsColumn u v) (same_Some a t e) z.0)
+value-of-type (a ∷ types) (v ∷ row) (suc column) t z e = value-of-type types row column t z.1 e
+
+pub there : (types : List AttrType) (rows : RowList) (place column : ℕ) → HaveTypes types rows → place < length rows → column < length types → IsThere types rows place column
+there types rows place column have within l =
+    let t = get_or types column (record { base = UInt64; nullable = false }) in
+    let type_at : slice_get types column ≡ Some t = slice_get-get_or types column (record { base = UInt64; nullable = false }) l in
+    let v = value-of-type types (get_or rows place []) column t (have place [] within) type_at in record {
+      row = get_or rows place [];
+      value = v.0;
+      type_of = t;
+      row_at = slice_get-get_or rows place [] within;
+      value_at = v.1;
+      type_at = type_at;
+      fits = v.2;
+    }
+
+-- a row has as many values as there are types
+pub row-long : (types : List AttrType) (rows : RowList) (place : ℕ) (row : List Value) → HaveTypes types rows → slice_get rows place ≡ Some row → length row ≡ length types
+row-long types rows place row have at =
+    let within = slice_get_within rows place row at in
+    let z : AllZip FitsColumn types row = subst (AllZip FitsColumn types) (get_or_from_slice_get rows place row row at) (have place row within) in
+    AllZip-long FitsColumn types row z
+
 -- of no rows none stands
 pub stand-none : (keys : List (List Value)) (rows : RowList) → StandTo keys rows 0 []
 stand-none keys rows = record {
@@ -86,12 +134,12 @@ stand-none keys rows = record {
 module _ (keys : List (List Value)) (rows : RowList) (n : ℕ) (standing : RowList) (h : StandTo keys rows n standing) where
   -- the next row doesn't stand
   pub stand-skip : ¬ (IsFirst keys n) → StandTo keys rows (n + 1) standing
-  stand-skip no = record {
+  stand-skip other = record {
     places = h.places;
     rising = h.rising;
     those = λ place. (λ c. let w = (h.those place).0 c in (omega (arith, w.0), w.1), λ w. (h.those place).1 (elim (cases_eq place n) [
-      | inl e ↦ absurd (no (subst (IsFirst keys) e w.1))
-      | inr ne ↦ (omega (arith, w.0), w.1)
+      | inl e ↦ absurd (other (subst (IsFirst keys) e w.1))
+      | inr apart ↦ (omega (arith, w.0), w.1)
     ]));
     stand = h.stand;
   }
@@ -100,13 +148,13 @@ module _ (keys : List (List Value)) (rows : RowList) (n : ℕ) (standing : RowLi
   pub stand-more : (row : List Value) → IsFirst keys n → slice_get rows n ≡ Some row → StandTo keys rows (n + 1) (standing ++ row ∷ [])
   stand-more row first at = record {
     places = h.places ++ n ∷ [];
-    rising = all_pairs_push (λ earlier later. earlier < later) h.places n h.rising (λ k d l. ((h.those (get_or h.places k d)).0 (k, (l, get_or_default h.places k (get_or h.places k d) d l))).0);
+    rising = all_pairs_push (λ earlier later. earlier < later) h.places n h.rising (λ k d l. ((h.those (get_or h.places k d)).0 (k, l, get_or_default h.places k (get_or h.places k d) d l)).0);
     those = λ place. (λ c. elim (Contains-push_cases h.places n place c) [
       | inl old ↦ (let w = (h.those place).0 old in (omega (arith, w.0), w.1))
       | inr e ↦ (omega arith, subst (IsFirst keys) e first)
     ], λ w. elim (cases_eq place n) [
       | inl e ↦ subst (Contains (h.places ++ n ∷ [])) (sym e) (Contains-push h.places n)
-      | inr ne ↦ Contains-append_left h.places (n ∷ []) place ((h.those place).1 (omega (arith, w.0), w.1))
+      | inr apart ↦ Contains-append_left h.places (n ∷ []) place ((h.those place).1 (omega (arith, w.0), w.1))
     ]);
     stand = map_push (slice_get rows) h.places n ∙ ap (λ xs. xs ++ slice_get rows n ∷ []) h.stand ∙ ap (λ x. map Some standing ++ x ∷ []) at ∙ sym (map_push Some standing row);
   }
@@ -123,4 +171,5 @@ stand-whole keys rows standing h = record {
     within : (place : ℕ) → IsFirst (keys_of keys rows) place → place < length rows
     within place (key, first) =
         let l : place < length (keys_of keys rows) = slice_get_within (keys_of keys rows) place key first.equal in
-        omega (arith, length-map (λ (row : List Value). take keys row) rows, l)
+        let same : length (keys_of keys rows) ≡ length rows = length-map rows (λ (row : List Value). take keys row) in
+        omega (arith, same, l)

@@ -1,0 +1,4 @@
+use Rattle.overlay.proofs.laying.overlay.Goals as goal
+
+pub returns : goal.returns
+returns c = ?
