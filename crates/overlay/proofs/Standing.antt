@@ -1,5 +1,5 @@
 -- Which rows stand, row by row.
-use Rattle.std.proofs.Common.{◌≡◌, ◌≢◌, ◌↔◌, ◌⊎◌, ◌+◌, ◌<◌, ◌≤◌, ℕ, zero, suc, List, [], ◌∷◌, ◌++◌, length, map, take, Option, Some, None, Contains, All, refl, sym, ◌∙◌, ap, subst, inl, inr, arith, get_or, slice_get, ◌-◌, false}
+use Rattle.std.proofs.Common.{◌≡◌, ◌≢◌, ◌↔◌, ◌⊎◌, ◌+◌, ◌<◌, ◌≤◌, ℕ, zero, suc, List, [], ◌∷◌, ◌++◌, length, map, take, Option, Some, None, Contains, All, IfSome, refl, sym, ◌∙◌, ap, subst, inl, inr, arith, get_or, slice_get, ◌-◌, false}
 use Rattle.std.specs.List.{AllPairs, AllZip}
 use Rattle.std.proofs.lemmas.Bool.{cases_lt, cases_eq}
 use Rattle.std.proofs.lemmas.List.{get_or_default, length-map, map_push, take_more}
@@ -12,9 +12,10 @@ use Rattle.dict_value.specs.Values.{FitsColumn}
 use Rattle.dict_value.specs.declared.value.AttrType.{AttrType}
 use Rattle.dict_value.specs.declared.value.ColType.TheVariants.{UInt64}
 use Rattle.dict_value.specs.declared.value.Value.{Value}
-use Rattle.packed_rows.specs.Columns.{RowList}
+use Rattle.packed_rows.specs.Columns.{RowList, cell_at, cell_of}
+use Rattle.packed_rows.specs.Packs.{Building}
 use Rattle.overlay.specs.Overlays.{HaveTypes, IsFirst, keys_of, StandOf, Overlay}
-use Rattle.overlay.specs.steps.Standing.{IsFirstBehind, StandTo}
+use Rattle.overlay.specs.steps.Standing.{AddsRow, IsFirstBehind, StandTo}
 
 -- a key has one least place
 pub least-one : (keys : List (List Value)) (key : List Value) (a b : ℕ) → IsLeastPlace keys key a → IsLeastPlace keys key b → a ≡ b
@@ -114,6 +115,41 @@ there types rows place column have within l =
       type_at = type_at;
       fits = v.2;
     }
+
+-- the value is that cell
+pub cell-there : (types : List AttrType) (rows : RowList) (place column : ℕ) (at : IsThere types rows place column) → cell_at rows place column ≡ Some at.value
+cell-there types rows place column at = ap (λ (o : Option (List Value)). cell_of o column) at.row_at ∙ at.value_at
+
+-- the building with one more row
+abbrev pub with_row : Building → List Value → Building
+with_row old row = record old { rows = old.rows ++ row ∷ [] }
+
+pub adds-row : (old out new : Building) (rows : RowList) (place : ℕ) (row : List Value) → slice_get rows place ≡ Some row → out.types ≡ old.types → out.rows ≡ old.rows → out.open_row ≡ row → old.open_row ≡ []
+    → new ≡ record out { rows = out.rows ++ out.open_row ∷ []; open_row = [] } → AddsRow old rows place new
+adds-row old out new rows place row at types list held none e = subst P (sym at) (e ∙ first ∙ second ∙ third ∙ fourth)
+  where
+    P : Option (List Value) → Type 0
+    P o = IfSome o (λ r. new ≡ with_row old r)
+
+    made : List AttrType → RowList → List Value → Building
+    made ts rs r = record { types = ts; rows = rs; open_row = r }
+
+    first : made out.types (out.rows ++ out.open_row ∷ []) [] ≡ made old.types (out.rows ++ out.open_row ∷ []) []
+    first = ap (λ ts. made ts (out.rows ++ out.open_row ∷ []) []) types
+
+    second : made old.types (out.rows ++ out.open_row ∷ []) [] ≡ made old.types (old.rows ++ out.open_row ∷ []) []
+    second = ap (λ rs. made old.types (rs ++ out.open_row ∷ []) []) list
+
+    third : made old.types (old.rows ++ out.open_row ∷ []) [] ≡ made old.types (old.rows ++ row ∷ []) []
+    third = ap (λ r. made old.types (old.rows ++ r ∷ []) []) held
+
+    fourth : made old.types (old.rows ++ row ∷ []) [] ≡ made old.types (old.rows ++ row ∷ []) old.open_row
+    fourth = ap (λ r. made old.types (old.rows ++ row ∷ []) r) (sym none)
+
+pub added : (old new : Building) (rows : RowList) (place : ℕ) (row : List Value) → slice_get rows place ≡ Some row → AddsRow old rows place new → new ≡ with_row old row
+added old new rows place row at h =
+    let P : Option (List Value) → Type 0 = λ o. IfSome o (λ r. new ≡ with_row old r) in
+    subst P at h
 
 -- a row has as many values as there are types
 pub row-long : (types : List AttrType) (rows : RowList) (place : ℕ) (row : List Value) → HaveTypes types rows → slice_get rows place ≡ Some row → length row ≡ length types
