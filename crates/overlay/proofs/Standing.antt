@@ -55,13 +55,22 @@ module _ {A : Type 0} where
 
 -- the first place of a key, with keys behind
 pub first-front : (keys later : List (List Value)) (n : ℕ) → n < length keys → IsFirst (keys ++ later) n ↔ IsFirst keys n
-first-front keys later n l = (λ (key, h). (key, record {
-  equal = sym (get-front keys later n l) ∙ h.equal;
-  least = λ earlier less at. h.least earlier less (get-front keys later earlier (omega arith) ∙ at);
-}), λ (key, h). (key, record {
-  equal = get-front keys later n l ∙ h.equal;
-  least = λ earlier less at. h.least earlier less (sym (get-front keys later earlier (omega arith)) ∙ at);
-}))
+first-front keys later n l = (
+  λ (key, h). (
+    key,
+    record {
+      equal = sym (get-front keys later n l) ∙ h.equal;
+      least = λ earlier less at. h.least earlier less (get-front keys later earlier (omega arith) ∙ at);
+    },
+  ),
+  λ (key, h). (
+    key,
+    record {
+      equal = get-front keys later n l ∙ h.equal;
+      least = λ earlier less at. h.least earlier less (sym (get-front keys later earlier (omega arith)) ∙ at);
+    },
+  ),
+)
 
 -- the first place of a key, behind other keys
 pub first-behind : (others keys : List (List Value)) (n : ℕ) → IsFirst (others ++ keys) (length others + n) ↔ IsFirstBehind others keys n
@@ -69,22 +78,26 @@ first-behind others keys n = (there, back)
   where
     there : IsFirst (others ++ keys) (length others + n) → IsFirstBehind others keys n
     there (key, h) =
-        let at : HasKeyAt keys key n = sym (get-behind others keys n) ∙ h.equal in
-        (λ named has other found. let same : named ≡ key = same_Some named key (sym has ∙ at) in
-            let within : other < length others = slice_get_within others other named found in
-            h.least other (omega arith) (get-front others keys other within ∙ found ∙ ap (λ k. Some k) same),
-        (key, record { equal = at; least = λ earlier less has. h.least (length others + earlier) (omega arith) (get-behind others keys earlier ∙ has) }))
+        let at : HasKeyAt keys key n = sym (get-behind others keys n) ∙ h.equal in (
+          λ named has other found. let same : named ≡ key = same_Some named key (sym has ∙ at) in
+              let within : other < length others = slice_get_within others other named found in
+              h.least other (omega arith) (get-front others keys other within ∙ found ∙ ap (λ k. Some k) same),
+          (key, record { equal = at; least = λ earlier less has. h.least (length others + earlier) (omega arith) (get-behind others keys earlier ∙ has) }),
+        )
 
     back : IsFirstBehind others keys n → IsFirst (others ++ keys) (length others + n)
-    back (none, (key, h)) = (key, record {
-      equal = get-behind others keys n ∙ h.equal;
-      least = λ earlier less has. elim (cases_lt earlier (length others)) [
-        | inl front ↦ none key h.equal earlier (sym (get-front others keys earlier front) ∙ has)
-        | inr behind ↦ (let k : ℕ = earlier - length others in
-            let e : length others + k ≡ earlier = omega arith in
-            h.least k (omega arith) (sym (get-behind others keys k) ∙ ap (slice_get (others ++ keys)) e ∙ has))
-      ];
-    })
+    back (none, (key, h)) = (
+      key,
+      record {
+        equal = get-behind others keys n ∙ h.equal;
+        least = λ earlier less has. elim (cases_lt earlier (length others)) [
+          | inl front ↦ none key h.equal earlier (sym (get-front others keys earlier front) ∙ has)
+          | inr behind ↦ (let k : ℕ = earlier - length others in
+              let e : length others + k ≡ earlier = omega arith in
+              h.least k (omega arith) (sym (get-behind others keys k) ∙ ap (slice_get (others ++ keys)) e ∙ has))
+        ];
+      },
+    )
 
 -- a row's value at a column, which is of the column's type
 pub record IsThere (types : List AttrType) (rows : RowList) (place column : ℕ) : Type 0 where
@@ -173,10 +186,13 @@ module _ (keys : List (List Value)) (rows : RowList) (n : ℕ) (standing : RowLi
   stand-skip other = record {
     places = h.places;
     rising = h.rising;
-    those = λ place. (λ c. let w = (h.those place).0 c in (omega (arith, w.0), w.1), λ w. (h.those place).1 (elim (cases_eq place n) [
-      | inl e ↦ absurd (other (subst (IsFirst keys) e w.1))
-      | inr apart ↦ (omega (arith, w.0), w.1)
-    ]));
+    those = λ place. (
+      λ c. let w = (h.those place).0 c in (omega (arith, w.0), w.1),
+      λ w. (h.those place).1 (elim (cases_eq place n) [
+        | inl e ↦ absurd (other (subst (IsFirst keys) e w.1))
+        | inr apart ↦ (omega (arith, w.0), w.1)
+      ]),
+    );
     stand = h.stand;
   }
 
@@ -185,13 +201,16 @@ module _ (keys : List (List Value)) (rows : RowList) (n : ℕ) (standing : RowLi
   stand-more row first at = record {
     places = h.places ++ n ∷ [];
     rising = all_pairs_push (λ earlier later. earlier < later) h.places n h.rising (λ k d l. ((h.those (get_or h.places k d)).0 (k, l, get_or_default h.places k (get_or h.places k d) d l)).0);
-    those = λ place. (λ c. elim (Contains-push_cases h.places n place c) [
-      | inl old ↦ (let w = (h.those place).0 old in (omega (arith, w.0), w.1))
-      | inr e ↦ (omega arith, subst (IsFirst keys) e first)
-    ], λ w. elim (cases_eq place n) [
-      | inl e ↦ subst (Contains (h.places ++ n ∷ [])) (sym e) (Contains-push h.places n)
-      | inr apart ↦ Contains-append_left h.places (n ∷ []) place ((h.those place).1 (omega (arith, w.0), w.1))
-    ]);
+    those = λ place. (
+      λ c. elim (Contains-push_cases h.places n place c) [
+        | inl old ↦ (let w = (h.those place).0 old in (omega (arith, w.0), w.1))
+        | inr e ↦ (omega arith, subst (IsFirst keys) e first)
+      ],
+      λ w. elim (cases_eq place n) [
+        | inl e ↦ subst (Contains (h.places ++ n ∷ [])) (sym e) (Contains-push h.places n)
+        | inr apart ↦ Contains-append_left h.places (n ∷ []) place ((h.those place).1 (omega (arith, w.0), w.1))
+      ],
+    );
     stand = map_push (slice_get rows) h.places n ∙ ap (λ xs. xs ++ slice_get rows n ∷ []) h.stand ∙ ap (λ x. map Some standing ++ x ∷ []) at ∙ sym (map_push Some standing row);
   }
 

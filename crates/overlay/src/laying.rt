@@ -109,13 +109,7 @@ pub fn overlay(
     let former_table = Complex::build(alloc, former_keys.as_slice())?;
     let fresh_table = Complex::build(alloc, fresh_keys.as_slice())?;
     let mut out = RowsBuilder::with_room(alloc, types, former.len().max(fresh.len()), 0)?;
-    push_new(
-        &mut out,
-        types,
-        fresh,
-        fresh_keys.as_slice(),
-        &fresh_table,
-    )?;
+    push_new(&mut out, types, fresh, fresh_keys.as_slice(), &fresh_table)?;
     push_former(
         &mut out,
         types,

@@ -24,6 +24,6 @@ returns c =
     let all = c.in_ok-push_former.ensures.stand (keys_of keys fresh) fresh (length-map fresh key) of new in
     let both : keys_of keys fresh ++ behind ≡ keys_of keys (fresh ++ former) = ap (λ (ks : List (List Value)). keys_of keys fresh ++ ks) last-keys ∙ sym (map-append key fresh former) in
     let whole : StandTo (keys_of keys (fresh ++ former)) (fresh ++ former) (length (fresh ++ former)) c.push_former.new.out.rows =
-        subst (λ (n : ℕ). StandTo (keys_of keys (fresh ++ former)) (fresh ++ former) n c.push_former.new.out.rows) (sym (length-append fresh former))
-        (subst (λ (ks : List (List Value)). StandTo ks (fresh ++ former) (length fresh + length former) c.push_former.new.out.rows) both all) in
+    subst (λ (n : ℕ). StandTo (keys_of keys (fresh ++ former)) (fresh ++ former) n c.push_former.new.out.rows) (sym (length-append fresh former))
+    (subst (λ (ks : List (List Value)). StandTo ks (fresh ++ former) (length fresh + length former) c.push_former.new.out.rows) both all) in
     subst (StandOf keys (fresh ++ former)) (sym c.finish.ensures) (stand-whole keys (fresh ++ former) c.push_former.new.out.rows whole)
