@@ -1,4 +1,5 @@
 // Overlays of worked rows.
+use crate::laws::one_overlay;
 use crate::overlay;
 use dict_value::{AttrType, ColType, NoMemory};
 use packed_rows::{Cell, Rows, RowsBuilder};
@@ -99,6 +100,7 @@ fn rows_laid_over_former_ones(rt: HostRuntime) -> Result<(), Fail> {
             assert_eq!(rt; standing.get(place, 1), Some(Cell::S(text)));
         }
     }
+    one_overlay();
     Ok(())
 }
 
