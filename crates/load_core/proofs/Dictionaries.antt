@@ -14,7 +14,7 @@ use Rattle.load_core.specs.declared.world.WorldEvent.TheVariants.{Finish, Publis
 use Rattle.load_core.specs.declared.world.WorldEntry.{WorldEntry}
 use Rattle.load_core.specs.declared.world.WorldDict.{WorldDict}
 use Rattle.load_core.specs.declared.world.World.{World}
-use Rattle.load_core.specs.WorldSteps.{Verdicts, IsAnswered, WorldStep, Run, formers}
+use Rattle.load_core.specs.WorldSteps.{Verdicts, IsAnswered, WorldStep, Run, candidate}
 use Rattle.load_core.specs.Laws.{running, entries_of, with_piece, joined, IsNoFinish, IsNoPublish, BeginsWith, IsOfOneLoad, newest_definition}
 use Rattle.load_core.specs.steps.WorldTurns.{IsShort}
 use Rattle.load_core.proofs.Runs.{joined_more, run_more}
@@ -54,7 +54,7 @@ module _ (judges : Verdicts) (first : World) where
     pub taken : bytes ≡ joined d [] reading
     pub finish : IsAnswered judges read d (Finish d (Whole (Code (pos 0)))) effect.Ready finished
     pub list : entries_of read d ≡ entries
-    pub accepted : judges definition (formers entries) bytes None
+    pub accepted : judges (candidate definition entries bytes) None
     pub waiting : Run judges finished ready now
     pub one_publish : All (IsNoPublish d) ready
 

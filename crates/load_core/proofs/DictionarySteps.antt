@@ -23,23 +23,23 @@ use Rattle.load_core.specs.declared.world.WorldEntry.{WorldEntry}
 use Rattle.load_core.specs.declared.world.WorldDict.{WorldDict}
 use Rattle.load_core.specs.declared.world.World.{World}
 use Rattle.load_core.specs.DictSteps.{most_loads, DictStepped, risen, refused, stepped}
-use Rattle.load_core.specs.WorldSteps.{most_bytes, Verdicts, Judging, Says, Finishes, FinishesIn, TakesEvent, DictStep, IsAnswered, WorldStep, Run, counted, definition_for, dict_at, entry_of, formers, judging}
+use Rattle.load_core.specs.WorldSteps.{most_bytes, Verdicts, Candidate, Finishes, FinishesIn, TakesEvent, DictStep, IsAnswered, WorldStep, Run, counted, definition_for, dict_at, entry_of, loaded}
 use Rattle.load_core.specs.Laws.{running, entries_in, with_piece, IsNoFinish, IsNoPublish, BeginsWith, IsOfOneLoad, newest_definition}
 use Rattle.load_core.proofs.Dictionaries.{IsReading, IsReady, LoadIs, OneLoadOf, IsSound, reading_more, loads_more, sound_same}
 use Rattle.load_core.proofs.Lists.{range_push, rising_push, split_push}
 use Rattle.load_core.proofs.Rows.{begun, taken, read, failed, published, posted, start_row, piece_row, rows_row, failed_row, publish_row, post_row, dict_refused, finishes_running, after_step}
 
 -- only a whole output with status 0 that the judge accepts has rows
-rows_finish : (judges : Verdicts) (j : Judging) (ended : Ended) → Finishes judges j ended Rows → (ended ≡ Whole (Code (pos 0))) × Says judges j None
-rows_finish judges j NotStarted h = cc
-rows_finish judges j Broken h = cc
-rows_finish judges j TimedOut h = cc
-rows_finish judges j (TooLong limit) h = cc
-rows_finish judges j (Whole (Code (pos zero))) h = (refl, h)
-rows_finish judges j (Whole (Code (pos (suc n)))) h = cc
-rows_finish judges j (Whole (Code (negsuc n))) h = cc
-rows_finish judges j (Whole Killed) h = cc
-rows_finish judges j NoMemory h = cc
+rows_finish : (judges : Verdicts) (load : Candidate) (ended : Ended) → Finishes judges load ended Rows → (ended ≡ Whole (Code (pos 0))) × judges load None
+rows_finish judges load NotStarted h = cc
+rows_finish judges load Broken h = cc
+rows_finish judges load TimedOut h = cc
+rows_finish judges load (TooLong limit) h = cc
+rows_finish judges load (Whole (Code (pos zero))) h = (refl, h)
+rows_finish judges load (Whole (Code (pos (suc n)))) h = cc
+rows_finish judges load (Whole (Code (negsuc n))) h = cc
+rows_finish judges load (Whole Killed) h = cc
+rows_finish judges load NoMemory h = cc
 
 -- the definition of one more entry is the newest
 newest_push : (place : ℕ) (entries : List WorldEntry) (entry : WorldEntry) → newest_definition place (entries ++ entry ∷ []) ≡ entry.definition
@@ -125,7 +125,7 @@ module _ (judges : Verdicts) (first : World) (past : List WorldEvent) (now next 
         (reading_more judges first past now d x.core.loads x.loading x.bytes (x.bytes ++ piece) (Piece d piece) next (subst (LoadIs judges first past now d x.core.loads x.loading x.bytes x.entries) e h.load) s tt (piece_taken d x.bytes piece l));
   }
 
-  sound_read : x.core.phase ≡ Reading → Says judges (judging x) None → IsAnswered judges now d (Finish d (Whole (Code (pos 0)))) effect.Ready next → IsSound judges first (past ++ Finish d (Whole (Code (pos 0))) ∷ []) next d (after_step x (Finish d (Whole (Code (pos 0)))) (read x.core))
+  sound_read : x.core.phase ≡ Reading → judges (loaded x) None → IsAnswered judges now d (Finish d (Whole (Code (pos 0)))) effect.Ready next → IsSound judges first (past ++ Finish d (Whole (Code (pos 0))) ∷ []) next d (after_step x (Finish d (Whole (Code (pos 0)))) (read x.core))
   sound_read e accepted a =
       let r : IsReading judges first past now d x.core.loads x.loading x.bytes = subst (LoadIs judges first past now d x.core.loads x.loading x.bytes x.entries) e h.load in
       let reading : running x.core.phase ≡ 1 = ap running e in record {
@@ -290,16 +290,16 @@ module _ (judges : Verdicts) (first : World) (past : List WorldEvent) (now next 
   pub sound_finish : (ended : Ended) (y : WorldDict) (answer : DictEffect) → DictStep judges x (Finish d ended) answer y → IsAnswered judges now d (Finish d ended) answer next → IsSound judges first (past ++ Finish d ended ∷ []) next d y
   sound_finish ended y answer t a = go t.0 t.1 t.2
     where
-      rows : FinishesIn x.core.phase judges (judging x) ended Rows → TakesEvent x (Finish d ended) (core.Finish Rows) answer y → IsSound judges first (past ++ Finish d ended ∷ []) next d y
+      rows : FinishesIn x.core.phase judges (loaded x) ended Rows → TakesEvent x (Finish d ended) (core.Finish Rows) answer y → IsSound judges first (past ++ Finish d ended ∷ []) next d y
       rows f u =
           elim (rows_row x.core) [
-            | inl r ↦ (let k = rows_finish judges (judging x) ended (finishes_running x.core.phase judges (judging x) ended Rows (ap running r.0) f) in sound_by (Finish d ended) (core.Finish Rows) answer y (read x.core) u r.1 (λ e.
+            | inl r ↦ (let k = rows_finish judges (loaded x) ended (finishes_running x.core.phase judges (loaded x) ended Rows (ap running r.0) f) in sound_by (Finish d ended) (core.Finish Rows) answer y (read x.core) u r.1 (λ e.
                 subst (λ (n : Ended). IsSound judges first (past ++ Finish d n ∷ []) next d (after_step x (Finish d n) (read x.core))) (sym k.0)
                 (sound_read r.0 k.1 (subst (λ (n : Ended). IsAnswered judges now d (Finish d n) effect.Ready next) k.0 (subst (λ (f : DictEffect). IsAnswered judges now d (Finish d ended) f next) e a)))))
             | inr r ↦ sound_refused (Finish d ended) y (inl (answer, a)) (left_by (Finish d ended) (core.Finish Rows) answer y u r.0) (λ e. absurd (r.1 e)) (λ e. tt)
           ]
 
-      go : (ending : Ending) → FinishesIn x.core.phase judges (judging x) ended ending → TakesEvent x (Finish d ended) (core.Finish ending) answer y → IsSound judges first (past ++ Finish d ended ∷ []) next d y
+      go : (ending : Ending) → FinishesIn x.core.phase judges (loaded x) ended ending → TakesEvent x (Finish d ended) (core.Finish ending) answer y → IsSound judges first (past ++ Finish d ended ∷ []) next d y
       go Rows f u = rows f u
       go (Failed why) f u =
           elim (failed_row x.core why) [

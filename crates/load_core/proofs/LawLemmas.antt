@@ -18,7 +18,7 @@ use Rattle.load_core.specs.declared.world.WorldEntry.{WorldEntry}
 use Rattle.load_core.specs.declared.world.WorldDict.{WorldDict}
 use Rattle.load_core.specs.declared.world.WorldCaller.{WorldCaller}
 use Rattle.load_core.specs.declared.world.World.{World}
-use Rattle.load_core.specs.WorldSteps.{Verdicts, Finishes, FinishesIn, TakesEvent, judging, DictStep, IsAnswered, CallerEvents, WorldStep, Run, last_number, dict_at, with_dict, caller_at, learnt, empty_world}
+use Rattle.load_core.specs.WorldSteps.{Verdicts, Finishes, FinishesIn, TakesEvent, loaded, DictStep, IsAnswered, CallerEvents, WorldStep, Run, last_number, dict_at, with_dict, caller_at, learnt, empty_world}
 use Rattle.load_core.specs.Laws.{entries_in, posted_in, posted_of, cause_in, answers_in, answers_of, EachDict, Grows, IsNumbered, IsRising, IsCounted, IsPosted, OneLoadEach, IsOfOneLoad, definition_in, CurrentIsNewest, FailsFor, FailingKeeps, PublishedClears, RefusedKeeps, IsLengthAtEnter, LengthsAtEnter, NeverFall, NeverOlder, NeverBelowLearnt}
 use Rattle.load_core.specs.steps.WorldTurns.{IsShort}
 use Rattle.load_core.proofs.Callers.{last_number_is}
@@ -97,7 +97,7 @@ module _ (judges : Verdicts) where
   pub failing_keeps : FailingKeeps judges
   failing_keeps old new d ended a = go a.step.0 a.step.1 a.step.2
     where
-      go : (ending : Ending) → FinishesIn a.before.core.phase judges (judging a.before) ended ending → TakesEvent a.before (Finish d ended) (core.Finish ending) effect.Failing a.after → (why : Cause) × Finishes judges (judging a.before) ended (Failed why) × FailsFor old new d why
+      go : (ending : Ending) → FinishesIn a.before.core.phase judges (loaded a.before) ended ending → TakesEvent a.before (Finish d ended) (core.Finish ending) effect.Failing a.after → (why : Cause) × Finishes judges (loaded a.before) ended (Failed why) × FailsFor old new d why
       go Rows f t =
           elim (rows_row a.before.core) [
             | inl r ↦ let k : effect.Failing ≡ effect.Ready = t.answers ∙ ap (λ s. s.effect) r.1 in cc
@@ -106,7 +106,7 @@ module _ (judges : Verdicts) where
       go (Failed why) f t =
           elim (failed_row a.before.core why) [
             | inl r ↦ (let is : dict_at new d ≡ Some (after_step a.before (Finish d ended) (failed a.before.core why)) = after_answer old new d (Finish d ended) effect.Failing a ∙ ap (λ (y : WorldDict). Some y) (t.leaves ∙ ap (after_step a.before (Finish d ended)) r.1) in
-                (why, finishes_running a.before.core.phase judges (judging a.before) ended (Failed why) r.0 f, record { cause = ap cause_in is; entries = ap entries_in is ∙ sym (ap entries_in a.found); definition = ap definition_in is ∙ sym (ap definition_in a.found) }))
+                (why, finishes_running a.before.core.phase judges (loaded a.before) ended (Failed why) r.0 f, record { cause = ap cause_in is; entries = ap entries_in is ∙ sym (ap entries_in a.found); definition = ap definition_in is ∙ sym (ap definition_in a.found) }))
             | inr r ↦ let k : effect.Failing ≡ effect.Refused = t.answers ∙ ap (λ s. s.effect) r.0 in cc
           ]
 

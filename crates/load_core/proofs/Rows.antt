@@ -17,7 +17,7 @@ use Rattle.load_core.specs.DictSteps.{most_loads, DictStepped, risen, refused, r
 use Rattle.load_core.specs.declared.world.Ended.{Ended}
 use Rattle.load_core.specs.declared.world.WorldEvent.TheVariants as event
 use Rattle.load_core.specs.declared.world.WorldEvent.{WorldEvent}
-use Rattle.load_core.specs.WorldSteps.{Verdicts, Judging, Finishes, FinishesIn, DictStep, judging, kept, dict_after}
+use Rattle.load_core.specs.WorldSteps.{Verdicts, Candidate, Finishes, FinishesIn, DictStep, loaded, kept, dict_after}
 use Rattle.load_core.specs.Laws.{running}
 
 -- what each row leaves and answers
@@ -184,29 +184,29 @@ dict_refused x event taken h =
     ∙ ap (λ (c : DictCore). record x { core = c }) (core_refused x.core taken h)
 
 -- where a load runs, the ending is that of how its child ended
-pub finishes_running : (p : Phase) (judges : Verdicts) (j : Judging) (ended : Ended) (ending : Ending) → running p ≡ 1 → FinishesIn p judges j ended ending → Finishes judges j ended ending
-finishes_running Idle judges j ended ending e f = absurd (omega arith)
-finishes_running Reading judges j ended ending e f = f
-finishes_running Ready judges j ended ending e f = f
-finishes_running ToPost judges j ended ending e f = absurd (omega arith)
+pub finishes_running : (p : Phase) (judges : Verdicts) (load : Candidate) (ended : Ended) (ending : Ending) → running p ≡ 1 → FinishesIn p judges load ended ending → Finishes judges load ended ending
+finishes_running Idle judges load ended ending e f = absurd (omega arith)
+finishes_running Reading judges load ended ending e f = f
+finishes_running Ready judges load ended ending e f = f
+finishes_running ToPost judges load ended ending e f = absurd (omega arith)
 
-pub running_finishes : (p : Phase) (judges : Verdicts) (j : Judging) (ended : Ended) (ending : Ending) → (p ≡ Reading) ⊎ (p ≡ Ready) → Finishes judges j ended ending → FinishesIn p judges j ended ending
-running_finishes Idle judges j ended ending e f = tt
-running_finishes Reading judges j ended ending e f = f
-running_finishes Ready judges j ended ending e f = f
-running_finishes ToPost judges j ended ending e f = tt
+pub running_finishes : (p : Phase) (judges : Verdicts) (load : Candidate) (ended : Ended) (ending : Ending) → (p ≡ Reading) ⊎ (p ≡ Ready) → Finishes judges load ended ending → FinishesIn p judges load ended ending
+running_finishes Idle judges load ended ending e f = tt
+running_finishes Reading judges load ended ending e f = f
+running_finishes Ready judges load ended ending e f = f
+running_finishes ToPost judges load ended ending e f = tt
 
 -- where none runs, each will do
-finishes_idle : (p : Phase) (judges : Verdicts) (j : Judging) (ended : Ended) (ending : Ending) → running p ≡ 0 → FinishesIn p judges j ended ending
-finishes_idle Idle judges j ended ending e = tt
-finishes_idle Reading judges j ended ending e = absurd (omega arith)
-finishes_idle Ready judges j ended ending e = absurd (omega arith)
-finishes_idle ToPost judges j ended ending e = tt
+finishes_idle : (p : Phase) (judges : Verdicts) (load : Candidate) (ended : Ended) (ending : Ending) → running p ≡ 0 → FinishesIn p judges load ended ending
+finishes_idle Idle judges load ended ending e = tt
+finishes_idle Reading judges load ended ending e = absurd (omega arith)
+finishes_idle Ready judges load ended ending e = absurd (omega arith)
+finishes_idle ToPost judges load ended ending e = tt
 
 -- and a Finish leaves the dictionary
 pub idle_finish : (judges : Verdicts) (x : WorldDict) (d : ℕ) (ended : Ended) → (x.core.phase ≡ Idle) ⊎ (x.core.phase ≡ ToPost) → (answer : DictEffect) × DictStep judges x (event.Finish d ended) answer x
 idle_finish judges x d ended waits = let e : running x.core.phase ≡ 0 = elim waits [ inl i ↦ ap running i | inr i ↦ ap running i ] in elim (rows_row x.core) [
   | inl r ↦ absurd (let k : running x.core.phase ≡ 1 = ap running r.0 in omega arith)
   | inr r ↦ (let k : (stepped x.core (Finish Rows)).effect ≡ effect.Refused = ap (λ s. s.effect) r.0 in
-      (effect.Refused, (Rows, finishes_idle x.core.phase judges (judging x) ended Rows e, record { answers = sym k; leaves = sym (dict_refused x (event.Finish d ended) (Finish Rows) k) })))
+      (effect.Refused, (Rows, finishes_idle x.core.phase judges (loaded x) ended Rows e, record { answers = sym k; leaves = sym (dict_refused x (event.Finish d ended) (Finish Rows) k) })))
 ]

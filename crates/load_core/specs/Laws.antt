@@ -17,14 +17,15 @@ use Rattle.load_core.specs.declared.dictionary.Phase.TheVariants.{Idle, Reading,
 use Rattle.load_core.specs.declared.world.Ended.{Ended}
 use Rattle.load_core.specs.declared.world.Ended.TheVariants.{Whole}
 use Rattle.load_core.specs.declared.world.WorldEvent.{WorldEvent}
-use Rattle.load_core.specs.declared.world.WorldEvent.TheVariants.{Start, StartWith, Piece, Finish, Publish, Enter, Learn}
+use Rattle.load_core.specs.declared.world.WorldEvent.TheVariants.{Start, StartWith, Piece, Finish, Publish}
+use Rattle.load_core.specs.declared.world.WorldEvent.TheVariants.{Enter, Learn}
 use Rattle.load_core.specs.declared.world.WorldEntry.{WorldEntry}
 use Rattle.load_core.specs.declared.world.WorldDict.{WorldDict}
 use Rattle.load_core.specs.declared.world.WorldCaller.{WorldCaller}
 use Rattle.load_core.specs.declared.world.World.{World}
 use Rattle.load_core.specs.CallerSteps.{effect_of}
 use Rattle.load_core.specs.WorldSteps.{Verdicts, Finishes, IsAnswered, WorldStep, Run, dict_at, caller_at, last_number}
-use Rattle.load_core.specs.WorldSteps.{formers, judging, most_bytes, empty_world}
+use Rattle.load_core.specs.WorldSteps.{candidate, loaded, most_bytes, empty_world}
 
 -- the entries of the dictionary at a place, which are none where there is no dictionary
 abbrev pub entries_in : Option WorldDict → List WorldEntry
@@ -92,9 +93,9 @@ BeginsWith d x (StartWith e named) definition = (e ≡ d) × (definition ≡ nam
 BeginsWith d x _ definition = ⊥
 
 -- The entry of dictionary d, which has these before it, is of one load in this run. The load began with the entry's
--- definition and was answered with the load's number. The pieces from there to its one Finish, of a child with status 0,
--- join to the entry's bytes, which the judge accepts after the entries before it. Its one Publish was answered with the
--- entry's number.
+-- definition, and was answered with the load's number. The pieces from there to its one Finish, of a child with status
+-- 0, join to the entry's bytes, which the judge accepts for that definition after the entries before it. Its one Publish
+-- was answered with the entry's number.
 pub record IsOfOneLoad (judges : Verdicts) (first : World) (events : List WorldEvent) (now : World)
     (d : ℕ) (before : List WorldEntry) (entry : WorldEntry) : Type 0 where
   pub opening : WorldEvent
@@ -118,7 +119,7 @@ pub record IsOfOneLoad (judges : Verdicts) (first : World) (events : List WorldE
   pub bytes : entry.bytes ≡ joined d [] reading
   pub finish : IsAnswered judges read d (Finish d (Whole (Code (pos 0)))) effect.Ready finished
   pub list : entries_of read d ≡ before
-  pub accepted : judges entry.definition (formers before) entry.bytes None
+  pub accepted : judges (candidate entry.definition before entry.bytes) None
   pub waiting : Run judges finished ready unpublished
   pub one_publish : All (IsNoPublish d) ready
   pub publish : IsAnswered judges unpublished d (Publish d) (effect.Published entry.number) published
@@ -207,7 +208,7 @@ pub record FailsFor (old new : World) (d : ℕ) (why : Cause) : Type 0 where
 abbrev pub FailingKeeps : Verdicts → Type 0
 FailingKeeps judges =
     (old new : World) (d : ℕ) (ended : Ended) → (a : IsAnswered judges old d (Finish d ended) effect.Failing new) →
-    (why : Cause) × Finishes judges (judging a.before) ended (Failed why) × FailsFor old new d why
+    (why : Cause) × Finishes judges (loaded a.before) ended (Failed why) × FailsFor old new d why
 
 -- a Publish that is answered Published clears the cause
 abbrev pub PublishedClears : Verdicts → Type 0

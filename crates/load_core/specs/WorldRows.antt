@@ -25,7 +25,7 @@ world_columns = key_column ∷ text_column ∷ []
 abbrev pub world_types : List AttrType
 world_types = record { base = UInt64; nullable = false } ∷ record { base = Str; nullable = false } ∷ []
 
--- what the judge says of a text, whatever the definition's number and the entries so far
+-- what the judge says: it looks at the text alone
 abbrev pub row_verdicts : Verdicts
-row_verdicts number before text None = (rows : List (List Value)) × IsTable (Decodes Tab world_columns text) rows
-row_verdicts number before text (Some cause) = HasNoTableFor (Decodes Tab world_columns text) cause
+row_verdicts load None = (rows : List (List Value)) × IsTable (Decodes Tab world_columns load.bytes) rows
+row_verdicts load (Some cause) = HasNoTableFor (Decodes Tab world_columns load.bytes) cause

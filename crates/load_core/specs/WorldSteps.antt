@@ -1,6 +1,6 @@
 -- What may happen to a world of dictionaries and callers.
-use Rattle.std.specs.Prelude.{◌≡◌, ◌<◌, ◌≤◌, ℕ, zero, ◌+◌, ◌⊎◌, List, [], ◌∷◌, ◌++◌, length, map, replicate, Option, Some, None}
-use Rattle.std.specs.Prelude.{pos, nat_le, if◌then◌else◌, slice_get, slice_set, unwrap_or}
+use Rattle.std.specs.Prelude.{◌≡◌, ◌<◌, ◌≤◌, ℕ, zero, ◌+◌, ◌⊎◌, List, [], ◌∷◌, ◌++◌, length, map, replicate}
+use Rattle.std.specs.Prelude.{Option, Some, None, pos, nat_le, if◌then◌else◌, slice_get, slice_set, unwrap_or}
 use Rattle.std.specs.List.{range_with_len}
 use Rattle.dict_value.specs.declared.fault.Cause.{Cause}
 use Rattle.dict_value.specs.declared.fault.Cause.TheVariants as cause
@@ -18,7 +18,8 @@ use Rattle.load_core.specs.declared.caller.CallerEvent.TheVariants.{Entered, Tol
 use Rattle.load_core.specs.declared.world.Ended.{Ended}
 use Rattle.load_core.specs.declared.world.Ended.TheVariants.{Whole, Broken, TimedOut, TooLong, NotStarted, NoMemory}
 use Rattle.load_core.specs.declared.world.WorldEvent.{WorldEvent}
-use Rattle.load_core.specs.declared.world.WorldEvent.TheVariants.{Start, StartWith, Piece, Finish, Publish, Post, Enter, Learn}
+use Rattle.load_core.specs.declared.world.WorldEvent.TheVariants.{Start, StartWith, Piece, Finish, Publish, Post}
+use Rattle.load_core.specs.declared.world.WorldEvent.TheVariants.{Enter, Learn}
 use Rattle.load_core.specs.declared.world.WorldEntry.{WorldEntry}
 use Rattle.load_core.specs.declared.world.WorldDict.{WorldDict}
 use Rattle.load_core.specs.declared.world.WorldCaller.{WorldCaller}
@@ -34,46 +35,42 @@ pub record Former : Type 0 where
 abbrev pub formers : List WorldEntry → List Former
 formers entries = map (λ e. record { definition = e.definition; bytes = e.bytes }) entries
 
--- What a judge says of a text, for a definition's number and the entries so far: it is accepted, or refused with a cause.
-abbrev pub Verdicts : Type 1
-Verdicts = ℕ → List Former → List ℕ → Option Cause → Type 0
-
--- what is judged of a load: its definition, the entries so far, and its bytes
-pub record Judging : Type 0 where
+-- what a load would become: its definition, the entries before it, and its bytes
+pub record Candidate : Type 0 where
   pub definition : ℕ
   pub before : List Former
-  pub text : List ℕ
+  pub bytes : List ℕ
 
--- a text for this definition, after these entries
-abbrev pub asking : ℕ → List WorldEntry → List ℕ → Judging
-asking definition entries text = record { definition = definition; before = formers entries; text = text }
+abbrev pub candidate : ℕ → List WorldEntry → List ℕ → Candidate
+candidate definition entries bytes =
+    record { definition = definition; before = formers entries; bytes = bytes }
 
--- the judge may say this of it
-abbrev pub Says : Verdicts → Judging → Option Cause → Type 0
-Says judges j verdict = judges j.definition j.before j.text verdict
+-- what a judge says of a candidate: it is accepted, or refused with a cause
+abbrev pub Verdicts : Type 1
+Verdicts = Candidate → Option Cause → Type 0
 
 -- how a load finishes whose whole output was read and whose child ended with status 0
-abbrev pub Judged : Verdicts → Judging → Ending → Type 0
-Judged judges j Rows = Says judges j None
-Judged judges j (Failed why) = Says judges j (Some why)
+abbrev pub Judged : Verdicts → Candidate → Ending → Type 0
+Judged judges load Rows = judges load None
+Judged judges load (Failed why) = judges load (Some why)
 
 -- how a load finishes, by how its child ended
-abbrev pub Finishes : Verdicts → Judging → Ended → Ending → Type 0
-Finishes judges j NotStarted ending = ending ≡ Failed cause.Start
-Finishes judges j Broken ending = ending ≡ Failed cause.Read
-Finishes judges j TimedOut ending = ending ≡ Failed cause.TimedOut
-Finishes judges j (TooLong limit) ending = ending ≡ Failed (cause.Longer limit)
-Finishes judges j (Whole (Code (pos zero))) ending = Judged judges j ending
-Finishes judges j (Whole (Code status)) ending = ending ≡ Failed (cause.Status status)
-Finishes judges j (Whole Killed) ending = ending ≡ Failed cause.Killed
-Finishes judges j NoMemory ending = ending ≡ Failed cause.NoMemory
+abbrev pub Finishes : Verdicts → Candidate → Ended → Ending → Type 0
+Finishes judges load NotStarted ending = ending ≡ Failed cause.Start
+Finishes judges load Broken ending = ending ≡ Failed cause.Read
+Finishes judges load TimedOut ending = ending ≡ Failed cause.TimedOut
+Finishes judges load (TooLong limit) ending = ending ≡ Failed (cause.Longer limit)
+Finishes judges load (Whole (Code (pos zero))) ending = Judged judges load ending
+Finishes judges load (Whole (Code status)) ending = ending ≡ Failed (cause.Status status)
+Finishes judges load (Whole Killed) ending = ending ≡ Failed cause.Killed
+Finishes judges load NoMemory ending = ending ≡ Failed cause.NoMemory
 
 -- how a load finishes in a phase; where none runs any ending will do, since the core refuses each
-abbrev pub FinishesIn : Phase → Verdicts → Judging → Ended → Ending → Type 0
-FinishesIn Idle judges j ended ending = Unit {0}
-FinishesIn Reading judges j ended ending = Finishes judges j ended ending
-FinishesIn Ready judges j ended ending = Finishes judges j ended ending
-FinishesIn ToPost judges j ended ending = Unit {0}
+abbrev pub FinishesIn : Phase → Verdicts → Candidate → Ended → Ending → Type 0
+FinishesIn Idle judges load ended ending = Unit {0}
+FinishesIn Reading judges load ended ending = Finishes judges load ended ending
+FinishesIn Ready judges load ended ending = Finishes judges load ended ending
+FinishesIn ToPost judges load ended ending = Unit {0}
 
 -- the greatest number of bytes that a load takes
 abbrev pub most_bytes : ℕ
@@ -118,9 +115,9 @@ pub record TakesEvent (x : WorldDict) (event : WorldEvent) (taken : DictEvent) (
   pub answers : answer ≡ (stepped x.core taken).effect
   pub leaves : y ≡ dict_after x event taken
 
--- what a judge is asked of a dictionary's load
-abbrev pub judging : WorldDict → Judging
-judging x = asking x.loading x.entries x.bytes
+-- what a dictionary's load would become
+abbrev pub loaded : WorldDict → Candidate
+loaded x = candidate x.loading x.entries x.bytes
 
 -- what an event of the world makes of its dictionary x, and how x's core answers
 abbrev pub DictStep : Verdicts → WorldDict → WorldEvent → DictEffect → WorldDict → Type 0
@@ -129,7 +126,7 @@ DictStep judges x (StartWith d definition) answer y = TakesEvent x (StartWith d 
 DictStep judges x (Piece d piece) answer y =
     TakesEvent x (Piece d piece) (core.Piece (counted x.bytes piece)) answer y
 DictStep judges x (Finish d ended) answer y =
-    (ending : Ending) × FinishesIn x.core.phase judges (judging x) ended ending
+    (ending : Ending) × FinishesIn x.core.phase judges (loaded x) ended ending
     × TakesEvent x (Finish d ended) (core.Finish ending) answer y
 DictStep judges x (Publish d) answer y = TakesEvent x (Publish d) core.Publish answer y
 DictStep judges x (Post d) answer y = TakesEvent x (Post d) core.Post answer y

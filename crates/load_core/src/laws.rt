@@ -1,11 +1,12 @@
 // What holds over every list of events.
 ghost use Rattle.load_core.specs.Laws.{EachDict, Grows, IsNumbered, IsRising, IsCounted, IsPosted, OneLoadEach};
-ghost use Rattle.load_core.specs.Laws.{CurrentIsNewest, FailingKeeps, PublishedClears, RefusedKeeps, LengthsAtEnter, NeverFall};
+ghost use Rattle.load_core.specs.Laws.{CurrentIsNewest, FailingKeeps, PublishedClears, RefusedKeeps};
+ghost use Rattle.load_core.specs.Laws.{LengthsAtEnter, NeverFall};
 ghost use Rattle.load_core.specs.Laws.{NeverOlder, NeverBelowLearnt};
-ghost use Rattle.std.specs.Prelude.{◌≡◌, ℕ, List, Option};
+ghost use Rattle.std.specs.Prelude.{◌≡◌, Option};
 ghost use Rattle.dict_value.specs.declared.fault.Cause.{Cause};
 ghost use Rattle.load_core.specs.WorldRows.{row_verdicts};
-ghost use Rattle.load_core.specs.WorldSteps.{Former};
+ghost use Rattle.load_core.specs.WorldSteps.{Candidate};
 
 use crate::judge::Judge;
 
@@ -33,8 +34,7 @@ pub fn core_law<J: Judge>()
 /// The judge of `World::run` gives one verdict on each text, whatever the definition and the entries so
 /// far: it is accepted, or refused for one cause.
 pub fn one_verdict()
-    ensures some { (number : ℕ) (before : List Former) (text : List ℕ) →
-        (verdict : Option Cause) × row_verdicts number before text verdict }
-    ensures one { (number : ℕ) (before : List Former) (text : List ℕ) (verdict other : Option Cause) →
-        row_verdicts number before text verdict → row_verdicts number before text other → verdict ≡ other }
+    ensures some { (load : Candidate) → (verdict : Option Cause) × row_verdicts load verdict }
+    ensures one { (load : Candidate) (verdict other : Option Cause) → row_verdicts load verdict
+        → row_verdicts load other → verdict ≡ other }
 {}

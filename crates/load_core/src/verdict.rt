@@ -1,6 +1,6 @@
 // How a world asks a judge.
 ghost use Rattle.std.specs.Prelude.{◌≤◌, length, IfOk};
-ghost use Rattle.load_core.specs.WorldSteps.{Judged, asking, most_bytes};
+ghost use Rattle.load_core.specs.WorldSteps.{Judged, candidate, most_bytes};
 
 use crate::dictionary::Ending;
 use crate::flat::{TableFault, accept};
@@ -21,7 +21,7 @@ pub trait Asked: Judge {
         text: &[u8],
     ) -> Result<Ending, NoMemory>
         requires { length text.now ≤ most_bytes }
-        ensures { IfOk result (Judged Self.judges (asking definition entries.now text.now)) };
+        ensures { IfOk result (Judged Self.judges (candidate definition entries.now text.now)) };
 }
 
 impl Asked for RowJudge {

@@ -3,7 +3,7 @@ ghost use Rattle.std.specs.Prelude.{◌≡◌, [], ◌∷◌, ◌++◌, ◌≤�
 ghost use Rattle.std.specs.Prelude.{slice_get, slice_set};
 ghost use Rattle.std.specs.List.{range_with_len};
 ghost use Rattle.load_core.specs.WorldSteps.{Finishes, Run, WorldStep, counted, definition_for, dict_after};
-ghost use Rattle.load_core.specs.WorldSteps.{judging, last_number, knowing, piece_of};
+ghost use Rattle.load_core.specs.WorldSteps.{last_number, loaded, knowing, piece_of};
 ghost use Rattle.load_core.specs.WorldSteps.{empty_dict, empty_caller, empty_world};
 ghost use Rattle.load_core.specs.steps.WorldTurns.{DictTurn, InformsAt, IsShort, KnowsAt, published_as, TurnsAt};
 
@@ -148,7 +148,7 @@ impl WorldDict {
     /// How its load finishes, by how the child ended.
     fn ending<J: Asked>(&self, alloc: Global, ended: Ended) -> Result<Ending, NoMemory>
         requires { IsShort self.now }
-        ensures { IfOk result (λ ending. Finishes J.judges (judging self.now) ended ending) }
+        ensures { IfOk result (λ ending. Finishes J.judges (loaded self.now) ended ending) }
     {
         let cause = match ended {
             Ended::NotStarted => Cause::Start,

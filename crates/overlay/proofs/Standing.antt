@@ -15,7 +15,7 @@ use Rattle.dict_value.specs.declared.value.Value.{Value}
 use Rattle.packed_rows.specs.Columns.{RowList, cell_at, cell_of}
 use Rattle.packed_rows.specs.Packs.{Building}
 use Rattle.overlay.specs.Overlays.{HaveTypes, IsFirst, keys_of, StandOf, Overlay}
-use Rattle.overlay.specs.steps.Standing.{AddsRow, IsFirstBehind, StandTo}
+use Rattle.overlay.specs.steps.Standing.{AddsRow, IsBetween, IsFirstBehind, StandTo}
 
 -- a key has one least place
 pub least-one : (keys : List (List Value)) (key : List Value) (a b : ℕ) → IsLeastPlace keys key a → IsLeastPlace keys key b → a ≡ b
@@ -163,6 +163,13 @@ pub added : (old new : Building) (rows : RowList) (place : ℕ) (row : List Valu
 added old new rows place row at h =
     let P : Option (List Value) → Type 0 = λ o. IfSome o (λ r. new ≡ with_row old r) in
     subst P at h
+
+-- still no row is open
+pub between-added : (types : List AttrType) (old new : Building) (row : List Value) → IsBetween types old → new ≡ with_row old row → IsBetween types new
+between-added types old new row h e = record {
+  types_are = ap (λ (b : Building). b.types) e ∙ h.types_are;
+  none_open = ap (λ (b : Building). b.open_row) e ∙ h.none_open;
+}
 
 -- a row has as many values as there are types
 pub row-long : (types : List AttrType) (rows : RowList) (place : ℕ) (row : List Value) → HaveTypes types rows → slice_get rows place ≡ Some row → length row ≡ length types

@@ -1,13 +1,21 @@
 // Overlays of worked rows.
+ghost use Rattle.std.specs.Prelude.{◌≡◌, ◌≤◌, ◌∷◌, [], length, IfOk, OnOk};
+ghost use Rattle.std.specs.List.{AllZip};
+ghost use Rattle.dict_value.specs.Values.{FitsColumn};
+ghost use Rattle.dict_value.specs.declared.value.TheConstants.{MOST_ROWS};
+ghost use Rattle.dict_value.specs.declared.value.Value.TheVariants.{U, S};
+ghost use Rattle.overlay.specs.Overlays.{HaveTypes};
+ghost use Rattle.overlay.specs.steps.Standing.{IsBetween};
+
 use crate::laws::one_overlay;
 use crate::overlay;
-use dict_value::{AttrType, ColType, NoMemory};
+use dict_value::{AttrType, ColType, MOST_ROWS, NoMemory};
 use packed_rows::{Cell, Rows, RowsBuilder};
 use std::alloc::Global;
 use std::test::Fail;
 
 /// The columns of the rows below: a number and a text.
-static TYPES: [AttrType; 2] = [
+const TYPES: [AttrType; 2] = [
     AttrType {
         base: ColType::UInt64,
         nullable: false,
@@ -77,12 +85,35 @@ static CASES: [Case; 7] = [
     },
 ];
 
-fn rows_of(alloc: Global, lines: &[Line]) -> Result<Rows, NoMemory> {
+/// Adds a row of a number and a text, unless there are as many as a version may have.
+fn push_line(
+    rows: &mut RowsBuilder,
+    types: &[AttrType],
+    number: u64,
+    text: &[u8],
+) -> Result<(), NoMemory>
+    requires pair { AllZip FitsColumn types.now (U number ∷ S text.now ∷ []) }
+    requires between { IsBetween types.now rows.old }
+    requires have { HaveTypes types.now rows.old.rows }
+    ensures between { OnOk result (IsBetween types.now rows.new) }
+    ensures have { OnOk result (HaveTypes types.now rows.new.rows) }
+    ensures few { OnOk result (length rows.new.rows ≤ MOST_ROWS) }
+{
+    if rows.row_count() >= MOST_ROWS {
+        return Err(NoMemory);
+    }
+    rows.push_cell(&Cell::U(number))?;
+    rows.push_cell(&Cell::S(text))?;
+    rows.end_row();
+    Ok(())
+}
+
+fn rows_of(alloc: Global, lines: &[Line]) -> Result<Rows, NoMemory>
+    ensures { IfOk result (λ rows. HaveTypes TYPES rows × (length rows ≤ MOST_ROWS)) }
+{
     let mut rows = RowsBuilder::new(alloc, &TYPES)?;
     for (number, text) in lines {
-        rows.push_cell(&Cell::U(*number))?;
-        rows.push_cell(&Cell::S(text))?;
-        rows.end_row();
+        push_line(&mut rows, &TYPES, *number, text)?;
     }
     Ok(rows.finish())
 }
@@ -93,6 +124,9 @@ fn rows_laid_over_former_ones(rt: HostRuntime) -> Result<(), Fail> {
     for case in &CASES {
         let former = rows_of(alloc, case.former)?;
         let fresh = rows_of(alloc, case.fresh)?;
+        if case.keys == 0 || case.keys > 2 {
+            return Err(Fail::from("no such key"));
+        }
         let standing = overlay(alloc, &TYPES, case.keys, &former, &fresh)?;
         assert_eq!(rt; standing.len(), case.standing.len());
         for (place, (number, text)) in case.standing.iter().enumerate() {
@@ -105,12 +139,12 @@ fn rows_laid_over_former_ones(rt: HostRuntime) -> Result<(), Fail> {
 }
 
 /// So many rows, whose keys begin with this number.
-fn numbered(alloc: Global, from: u32, count: u32) -> Result<Rows, NoMemory> {
+fn numbered(alloc: Global, from: u32, count: u32) -> Result<Rows, NoMemory>
+    ensures { IfOk result (λ rows. HaveTypes TYPES rows × (length rows ≤ MOST_ROWS)) }
+{
     let mut rows = RowsBuilder::new(alloc, &TYPES)?;
     for number in 0..count {
-        rows.push_cell(&Cell::U(u64::from(from) + u64::from(number)))?;
-        rows.push_cell(&Cell::S(b"text"))?;
-        rows.end_row();
+        push_line(&mut rows, &TYPES, u64::from(from) + u64::from(number), b"text")?;
     }
     Ok(rows.finish())
 }

@@ -5,8 +5,8 @@ use Rattle.dict_value.specs.declared.value.Value.{Value}
 use Rattle.packed_rows.specs.Columns.{RowList}
 use Rattle.packed_rows.specs.Packs.{Building}
 use Rattle.overlay.specs.Overlays.{IsFirst}
-use Rattle.overlay.specs.steps.Standing.{IsFirstBehind, StandTo}
-use Rattle.overlay.proofs.Standing.{added, first-behind, get-behind, stand-more, stand-skip, with_row}
+use Rattle.overlay.specs.steps.Standing.{IsBetween, IsFirstBehind, StandTo}
+use Rattle.overlay.proofs.Standing.{added, between-added, first-behind, get-behind, stand-more, stand-skip, with_row}
 use Rattle.overlay.proofs.laying.push_former.Goals as goal
 use Rattle.overlay.proofs.laying.push_former.Goals.{then-is_first_behind+in_ok-push_row, else-is_first_behind}
 
@@ -29,7 +29,7 @@ loop-place-preserved c =
           let at : slice_get rows place ≡ Some row = slice_get-get_or rows place [] within in
           let e : c.if-is_first_behind.out ≡ with_row old row = w.out-is ∙ added old w.push_row.new.out rows place row at w.in_ok-push_row.ensures in
           let list : c.if-is_first_behind.out.rows ≡ old.rows ++ row ∷ [] = ap (λ (b : Building). b.rows) e in record {
-            between = record { types_are = ap (λ (b : Building). b.types) e ∙ c.loop-place.invariant.between.types_are; none_open = ap (λ (b : Building). b.open_row) e ∙ c.loop-place.invariant.between.none_open };
+            between = between-added c.args.types.now old c.if-is_first_behind.out row c.loop-place.invariant.between e;
             few = omega (arith, ap length list, length_push old.rows row, c.loop-place.invariant.few);
             stand = λ before first same table h. (let n : length first + place + 1 ≡ length first + (place + 1) = omega arith in
                 subst (λ (k : ℕ). StandTo (before ++ keys) (first ++ rows) k c.if-is_first_behind.out.rows) n
@@ -37,7 +37,7 @@ loop-place-preserved c =
                 (stand-more (before ++ keys) (first ++ rows) (length first + place) old.rows (c.loop-place.invariant.stand before first same table h) row (behind before keys first place same ((c.is_first_behind.ensures before table).0 w.if-is_first_behind.true)) (get-behind first rows place ∙ at))));
           })
       | else-is_first_behind w ↦ (let list : c.if-is_first_behind.out.rows ≡ old.rows = ap (λ (b : Building). b.rows) w.out-is in record {
-        between = record { types_are = ap (λ (b : Building). b.types) w.out-is ∙ c.loop-place.invariant.between.types_are; none_open = ap (λ (b : Building). b.open_row) w.out-is ∙ c.loop-place.invariant.between.none_open };
+        between = subst (IsBetween c.args.types.now) (sym w.out-is) c.loop-place.invariant.between;
         few = omega (arith, ap length list, c.loop-place.invariant.few);
         stand = λ before first same table h. (let n : length first + place + 1 ≡ length first + (place + 1) = omega arith in
             subst (λ (k : ℕ). StandTo (before ++ keys) (first ++ rows) k c.if-is_first_behind.out.rows) n
