@@ -95,7 +95,7 @@ overlay-apart keys former new standing o i j d less l same =
     let b = stood rows o.places standing j (get_or standing j d) o.stand (slice_get-get_or standing j d l) in
     let within = slice_get_within o.places j b.place b.place_at in
     let rise : a.place < b.place = subst (λ (n : ℕ). n < b.place) (get_or_from_slice_get o.places i a.place 0 a.place_at)
-        (subst (λ (n : ℕ). get_or o.places i 0 < n) (get_or_from_slice_get o.places j b.place 0 b.place_at) (o.rising i j 0 less within)) in
+    (subst (λ (n : ℕ). get_or o.places i 0 < n) (get_or_from_slice_get o.places j b.place 0 b.place_at) (o.rising i j 0 less within)) in
     let first = (o.those b.place).0 (j, within, get_or_from_slice_get o.places j b.place b.place b.place_at) in
     let here : slice_get (keys_of keys rows) b.place ≡ Some (key (get_or standing j d)) = slice_get-map key rows b.place ∙ ap (option_map key) b.row_at in
     let named : first.0 ≡ key (get_or standing j d) = same_Some first.0 (key (get_or standing j d)) (sym first.1.equal ∙ here) in

@@ -144,7 +144,12 @@ fn numbered(alloc: Global, from: u32, count: u32) -> Result<Rows, NoMemory>
 {
     let mut rows = RowsBuilder::new(alloc, &TYPES)?;
     for number in 0..count {
-        push_line(&mut rows, &TYPES, u64::from(from) + u64::from(number), b"text")?;
+        push_line(
+            &mut rows,
+            &TYPES,
+            u64::from(from) + u64::from(number),
+            b"text",
+        )?;
     }
     Ok(rows.finish())
 }
