@@ -1,5 +1,5 @@
 -- What a child tells, and what its calls do to that.
-use Rattle.std.specs.Prelude.{◌≡◌, ◌<◌, ℕ, ◌+◌, ◌-◌, ◌≤◌, min, List, [], ◌∷◌, ◌++◌, length, take, drop, ⊤}
+use Rattle.std.specs.Prelude.{◌≡◌, ◌<◌, ◌⊎◌, ℕ, ◌+◌, ◌-◌, ◌≤◌, min, List, [], ◌∷◌, ◌++◌, length, take, drop, ⊤}
 use Rattle.std.specs.Prelude.{Option, Some, None, IfSome, Result, Ok, Err}
 use Rattle.std.specs.Prelude.{Bool, true, false, ◌||◌, ◌&&◌, not, ◌==◌, if◌then◌else◌}
 use Rattle.std.specs.List.{list_any}
@@ -137,6 +137,15 @@ abbrev pub StartTold : {C : Type 0} → (C → Option Told) → Option (List Scr
 StartTold told None new r = new ≡ None
 StartTold told (Some []) new r = (new ≡ Some []) × (r ≡ Err StartFailed)
 StartTold told (Some (s ∷ rest)) new r = (new ≡ Some rest) × StartedAs told s r
+
+-- one more start is told, with its words
+abbrev pub IsStart : Option (List (List (List ℕ))) → List (List ℕ) → Option (List (List (List ℕ))) → Type 0
+IsStart None words new = new ≡ None
+IsStart (Some starts) words new = new ≡ Some (starts ++ words ∷ [])
+
+-- each start is told with its words; one that gave no child may be left out, for want of memory
+abbrev pub StartsTold : Option (List (List (List ℕ))) → List (List ℕ) → Option (List (List (List ℕ))) → Type 0 → Type 0
+StartsTold old words new NoChild = IsStart old words new ⊎ (NoChild × (new ≡ old))
 
 -- the fact of a child that was started, for every output and exit where it doesn't tell
 abbrev pub RanAs : (List (List ℕ) → List ℕ → Exit → Type 0) → List (List ℕ) → Option Told → Type 0

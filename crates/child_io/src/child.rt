@@ -4,7 +4,7 @@ ghost use Rattle.std.specs.Prelude.{length, IsErr, IsErrOf, IfOk, IsTrue};
 ghost use Rattle.dict_io.specs.Outside.{HasCause, PutWithin};
 ghost use Rattle.child_io.specs.Calls.{heard_act, History, input_closed, put_act, Takes, wait_act};
 ghost use Rattle.child_io.specs.Told.{HeardFails, HeardTold, HeardWithin, is_heard_end, PutTold, Told, WaitTold};
-ghost use Rattle.child_io.specs.Told.{IsFresh, RanAs, StartTold};
+ghost use Rattle.child_io.specs.Told.{IsFresh, RanAs, StartTold, StartsTold};
 
 use dict_io::{Failed, Put};
 use dict_value::{Bytes, Exit, ListOf};
@@ -147,6 +147,9 @@ pub trait Spawner {
     /// The scripts that come, where it tells them.
     ghost scripts: { Self → Option (List Script) };
 
+    /// The words of each start so far, where it tells them.
+    ghost starts: { Self → Option (List (List (List ℕ))) };
+
     /// How often a start failed.
     ghost start_faults: { Self → ℕ };
 
@@ -157,6 +160,7 @@ pub trait Spawner {
         ensures open { IfOk result (λ c. Self.C.ended c ≡ false) }
         ensures ran { IfOk result (λ c. RanAs ran words.now (Self.C.told c)) }
         ensures started { IfOk result (λ c. started self.old words.now c self.new) }
+        ensures starts { StartsTold (starts self.old) words.now (starts self.new) (IsErr result) }
         ensures history { IfOk result (λ c. Self.C.history c [] c) }
         ensures cause { HasCause (start_faults self.old) (start_faults self.new) (IsErrOf result StartFault.Failed) };
 }

@@ -11,6 +11,8 @@ impl<S: Spawner> Spawner for &mut S {
 
     ghost scripts = { λ s. S.scripts s.now };
 
+    ghost starts = { λ s. S.starts s.now };
+
     ghost start_faults = { λ s. S.start_faults s.now };
 
     fn start(&mut self, words: &[Bytes]) -> Result<S::C, StartFault> {

@@ -21,4 +21,4 @@ pub use memory::{MemoryChild, MemorySpawner};
 pub use pieces::{Gathered, PieceEnd, Pieces};
 pub use run::{run_pieces, run_whole};
 pub use system::{OsChild, OsSpawner};
-pub use words::{folder_of, words_of};
+pub use words::{Since, folder_of, words_of, words_since};

@@ -1,5 +1,5 @@
 // Children in memory, by their scripts.
-ghost use Rattle.std.specs.Prelude.{◌≡◌, ◌<◌, ◌≤◌, ℕ, length, take, Some, []};
+ghost use Rattle.std.specs.Prelude.{◌≡◌, ◌<◌, ◌≤◌, ℕ, length, take, Some, [], ◌∷◌, ◌++◌, IfOk, OnOk, OnErr};
 ghost use Rattle.std.specs.List.{list_any};
 ghost use Rattle.std.specs.Str.{bytes_eq};
 ghost use Rattle.child_io.specs.Told.{is_accepted, told_of};
@@ -7,7 +7,7 @@ ghost use Rattle.child_io.specs.Told.{is_accepted, told_of};
 use crate::child::{Child, Heard, Script, Spawner, StartFault};
 use dict_io::memory::piece_size;
 use dict_io::{Failed, Put};
-use dict_value::{Bytes, Exit, ListOf};
+use dict_value::{Bytes, Exit, ListOf, NoMemory};
 use std::alloc::Global;
 
 /// The input is one of those, or there are none.
@@ -108,24 +108,56 @@ impl Child for MemoryChild {
     }
 }
 
-/// A spawner whose children follow scripts, in turn.
+/// A spawner whose children follow scripts, in turn. It keeps each start's words.
 #[derive(Drop)]
 pub struct MemorySpawner {
     alloc: Global,
     scripts: ListOf<Script>,
+    starts: ListOf<ListOf<Bytes>>,
     faults: u64,
+}
+
+/// The same words.
+fn copied(alloc: Global, words: &[Bytes]) -> Result<ListOf<Bytes>, NoMemory>
+    ensures { IfOk result (λ copy. copy ≡ words.now) }
+{
+    let mut copy = ListOf::with_room(alloc, words.len())?;
+    for word in words {
+        copy.push(Bytes::copy_of(alloc, word.as_slice())?)?;
+    }
+    Ok(copy)
 }
 
 impl MemorySpawner {
     pub fn new(alloc: Global, scripts: ListOf<Script>) -> MemorySpawner
         ensures scripts { ⟦<MemorySpawner as Spawner>⟧.scripts result ≡ Some scripts }
+        ensures starts { ⟦<MemorySpawner as Spawner>⟧.starts result ≡ Some [] }
         ensures faults { ⟦<MemorySpawner as Spawner>⟧.start_faults result ≡ 0 }
     {
         MemorySpawner {
             alloc,
             scripts,
+            starts: ListOf::new(alloc),
             faults: 0,
         }
+    }
+
+    /// The words of each start, in order. A start that gave no child may lack for want of memory.
+    pub fn starts(&self) -> &[ListOf<Bytes>]
+        ensures { ⟦<MemorySpawner as Spawner>⟧.starts self.now ≡ Some result.now }
+    {
+        self.starts.as_slice()
+    }
+
+    /// Keeps the words of a start.
+    fn keep(&mut self, words: &[Bytes]) -> Result<(), NoMemory>
+        ensures scripts { self.new.scripts ≡ self.old.scripts }
+        ensures faults { self.new.faults ≡ self.old.faults }
+        ensures ok { OnOk result (self.new.starts ≡ self.old.starts ++ words.now ∷ []) }
+        ensures err { OnErr result (self.new.starts ≡ self.old.starts) }
+    {
+        let kept = copied(self.alloc, words)?;
+        self.starts.push(kept)
     }
 }
 
@@ -138,9 +170,12 @@ impl Spawner for MemorySpawner {
 
     ghost scripts = { λ s. Some s.scripts };
 
+    ghost starts = { λ s. Some s.starts };
+
     ghost start_faults = { λ s. s.faults };
 
-    fn start(&mut self, _words: &[Bytes]) -> Result<MemoryChild, StartFault> {
+    fn start(&mut self, words: &[Bytes]) -> Result<MemoryChild, StartFault> {
+        let kept = self.keep(words);
         let Some(script) = self.scripts.pop_front() else {
             self.faults = self.faults.saturating_add(1);
             return Err(StartFault::Failed);
@@ -148,6 +183,9 @@ impl Spawner for MemorySpawner {
         if script.start_fails {
             self.faults = self.faults.saturating_add(1);
             return Err(StartFault::Failed);
+        }
+        if kept.is_err() {
+            return Err(StartFault::NoMemory);
         }
         match Bytes::zeros(self.alloc, script.room as usize) {
             Ok(input) => Ok(MemoryChild {

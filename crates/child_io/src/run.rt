@@ -1,8 +1,9 @@
 // One child, from its start to its end.
-ghost use Rattle.std.specs.Prelude.{◌≡◌, ◌≢◌, ◌<◌, ◌≤◌, ℕ, List, [], length, false, IsErr, IsTrue};
+ghost use Rattle.std.specs.Prelude.{◌≡◌, ◌≢◌, ◌<◌, ◌≤◌, ◌⊎◌, ℕ, List, [], length, false, IsErr, IsTrue};
 ghost use Rattle.dict_io.specs.Outside.{HasCause};
 ghost use Rattle.child_io.specs.Gathers.{HasWholeOutput};
 ghost use Rattle.child_io.specs.Runs.{EndBroke, EndFails, HandsOn, order_of, RanChild, RanToEnd, RunTold};
+ghost use Rattle.child_io.specs.Told.{StartsTold};
 ghost use Rattle.child_io.specs.declared.child.How.{How};
 ghost use Rattle.child_io.specs.declared.pieces.PieceEnd.{PieceEnd as EndOf};
 ghost use Rattle.child_io.specs.steps.Fed.{FeedCalls, FeedTold};
@@ -94,6 +95,8 @@ pub fn run_pieces<S: Spawner, P: Pieces>(
         (RanChild S.started S.C.told S.C.history S.C.faults order spawner.old spawner.new result)
         (RanToEnd S.ran words.now result) }
     ensures kept { P.kept out.new ≡ P.kept out.old }
+    ensures starts { StartsTold (S.starts spawner.old) words.now (S.starts spawner.new)
+        ((result ≡ PieceEnd.NotStarted) ⊎ (result ≡ PieceEnd.NoMemory)) }
     ensures broke { EndBroke S.C.broke result }
     ensures cause { HasCause (S.start_faults spawner.old) (S.start_faults spawner.new) (result ≡ PieceEnd.NotStarted) }
     ensures written { result ≡ PieceEnd.WriteFailed → input.now ≢ [] }
@@ -127,6 +130,8 @@ pub fn run_whole<S: Spawner>(
         (RunTold (S.scripts spawner.old) (S.scripts spawner.new) input.now limit end)
         (RanChild S.started S.C.told S.C.history S.C.faults order spawner.old spawner.new end)
         (RanToEnd S.ran words.now end) }
+    ensures starts { StartsTold (S.starts spawner.old) words.now (S.starts spawner.new)
+        ((result ≡ Outcome.NotStarted) ⊎ (result ≡ Outcome.NoMemory)) }
     ensures cause { HasCause (S.start_faults spawner.old) (S.start_faults spawner.new) (result ≡ Outcome.NotStarted) }
 {
     let mut gathered = Gathered::new(alloc);

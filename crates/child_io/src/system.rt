@@ -141,6 +141,8 @@ impl<R: Processes> Spawner for OsSpawner<'_, R> {
 
     ghost scripts = { λ s. None };
 
+    ghost starts = { λ s. None };
+
     ghost start_faults = { λ s. s.faults };
 
     fn start(&mut self, words: &[Bytes]) -> Result<OsChild<R::Started>, StartFault> {

@@ -13,17 +13,17 @@ use Rattle.load_core.specs.declared.dictionary.DictEvent.TheVariants as core
 use Rattle.load_core.specs.declared.dictionary.Ending.{Ending}
 use Rattle.load_core.specs.declared.dictionary.Ending.TheVariants.{Rows, Failed}
 use Rattle.load_core.specs.declared.world.WorldEvent.{WorldEvent}
-use Rattle.load_core.specs.declared.world.WorldEvent.TheVariants.{Start, Piece, Finish, Publish, Post, Enter, Learn}
+use Rattle.load_core.specs.declared.world.WorldEvent.TheVariants.{Start, StartWith, Piece, Finish, Publish, Post, Enter, Learn}
 use Rattle.load_core.specs.declared.world.WorldEntry.{WorldEntry}
 use Rattle.load_core.specs.declared.world.WorldDict.{WorldDict}
 use Rattle.load_core.specs.declared.world.WorldCaller.{WorldCaller}
 use Rattle.load_core.specs.declared.world.World.{World}
-use Rattle.load_core.specs.WorldSteps.{Verdicts, Finishes, FinishesIn, TakesEvent, DictStep, IsAnswered, CallerEvents, WorldStep, Run, last_number, dict_at, with_dict, caller_at, learnt, empty_world}
-use Rattle.load_core.specs.Laws.{entries_in, posted_in, posted_of, cause_in, answers_in, answers_of, EachDict, Grows, IsNumbered, IsRising, IsCounted, IsPosted, OneLoadEach, IsOfOneLoad, FailsFor, FailingKeeps, PublishedClears, RefusedKeeps, IsLengthAtEnter, LengthsAtEnter, NeverFall, NeverOlder, NeverBelowLearnt}
+use Rattle.load_core.specs.WorldSteps.{Verdicts, Finishes, FinishesIn, TakesEvent, loaded, DictStep, IsAnswered, CallerEvents, WorldStep, Run, last_number, dict_at, with_dict, caller_at, learnt, empty_world}
+use Rattle.load_core.specs.Laws.{entries_in, posted_in, posted_of, cause_in, answers_in, answers_of, EachDict, Grows, IsNumbered, IsRising, IsCounted, IsPosted, OneLoadEach, IsOfOneLoad, definition_in, CurrentIsNewest, FailsFor, FailingKeeps, PublishedClears, RefusedKeeps, IsLengthAtEnter, LengthsAtEnter, NeverFall, NeverOlder, NeverBelowLearnt}
 use Rattle.load_core.specs.steps.WorldTurns.{IsShort}
 use Rattle.load_core.proofs.Callers.{last_number_is}
 use Rattle.load_core.proofs.Dictionaries.{IsSound}
-use Rattle.load_core.proofs.Lists.{All-from_slice_get}
+use Rattle.load_core.proofs.Lists.{All-from_slice_get, nil_split}
 use Rattle.load_core.proofs.Places.{dict_at-with_same, with_dict_same}
 use Rattle.load_core.proofs.Rows.{failed, rows_row, failed_row, publish_row, dict_refused, finishes_running, after_step}
 use Rattle.load_core.proofs.Runs.{caller_turn, informs_same, CallerTurn, IsShown, IsTold}
@@ -36,21 +36,22 @@ floor_in (Some u) = u.core.floor
 
 -- a refused event leaves its dictionary
 step_refused : (judges : Verdicts) (x : WorldDict) (event : WorldEvent) (y : WorldDict) → DictStep judges x event effect.Refused y → y ≡ x
-step_refused judges x (Start d) y t = t.leaves ∙ dict_refused x _ _ (sym t.answers)
-step_refused judges x (Piece d piece) y t = t.leaves ∙ dict_refused x _ _ (sym t.answers)
-step_refused judges x (Finish d ended) y t = t.2.leaves ∙ dict_refused x _ _ (sym t.2.answers)
-step_refused judges x (Publish d) y t = t.leaves ∙ dict_refused x _ _ (sym t.answers)
-step_refused judges x (Post d) y t = t.leaves ∙ dict_refused x _ _ (sym t.answers)
+step_refused judges x (Start d) y t = t.leaves ∙ dict_refused x (Start d) _ (sym t.answers)
+step_refused judges x (StartWith d definition) y t = t.leaves ∙ dict_refused x (StartWith d definition) _ (sym t.answers)
+step_refused judges x (Piece d piece) y t = t.leaves ∙ dict_refused x (Piece d piece) _ (sym t.answers)
+step_refused judges x (Finish d ended) y t = t.2.leaves ∙ dict_refused x (Finish d ended) _ (sym t.2.answers)
+step_refused judges x (Publish d) y t = t.leaves ∙ dict_refused x (Publish d) _ (sym t.answers)
+step_refused judges x (Post d) y t = t.leaves ∙ dict_refused x (Post d) _ (sym t.answers)
 step_refused judges x (Enter c d) y t = absurd t
 step_refused judges x (Learn c d) y t = absurd t
 
 module _ (judges : Verdicts) where
   pub each_dict : (P : WorldDict → Type 0) → ((first now : World) (past : List WorldEvent) (d : ℕ) (x : WorldDict) → IsSound judges first past now d x → P x) → EachDict judges P
-  each_dict P h n m events now r =
-      All-from_slice_get P now.dictionaries (λ d x found. h (empty_world n m) now events d x ((sound_world judges n m events now r).dicts d x found))
+  each_dict P h n g m events now r =
+      All-from_slice_get P now.dictionaries (λ d x found. h (empty_world n g m) now events d x ((sound_world judges n g m events now r).dicts d x found))
 
   pub grows : Grows judges
-  grows n m early mid r late now s d = run_grows judges mid late now s d
+  grows n g m early mid r late now s d = run_grows judges mid late now s d
 
   pub numbers : EachDict judges IsNumbered
   numbers = each_dict IsNumbered (λ first now past d x h. h.numbers)
@@ -68,11 +69,14 @@ module _ (judges : Verdicts) where
   posted_is = each_dict IsPosted (λ first now past d x h. h.posted)
 
   pub one_load_each : OneLoadEach judges
-  one_load_each n m events now r d = go (dict_at now d) refl
+  one_load_each n g m events now r d before after entry h = go (dict_at now d) refl h
     where
-      go : (o : Option WorldDict) → dict_at now d ≡ o → All (IsOfOneLoad judges (empty_world n m) events now d) (entries_in o)
-      go None e = All-nil _
-      go (Some x) e = ((sound_world judges n m events now r).dicts d x e).one_load
+      go : (o : Option WorldDict) → dict_at now d ≡ o → entries_in o ≡ before ++ entry ∷ after → IsOfOneLoad judges (empty_world n g m) events now d before entry
+      go None e split = absurd (nil_split before after entry split)
+      go (Some x) e split = ((sound_world judges n g m events now r).dicts d x e).one_load before after entry split
+
+  pub current_is_newest : CurrentIsNewest judges
+  current_is_newest n g m events now r d x found = ((sound_world judges n g m events now r).dicts d x found).current
 
   -- the dictionary of an answer, after it
   after_answer : (old new : World) (d : ℕ) (event : WorldEvent) (answer : DictEffect) (a : IsAnswered judges old d event answer new) → dict_at new d ≡ Some a.after
@@ -86,14 +90,14 @@ module _ (judges : Verdicts) where
   pub published_clears : PublishedClears judges
   published_clears old new d number a =
       elim (publish_row a.before.core) [
-        | inl r ↦ ap cause_in (after_answer old new d (Publish d) (effect.Published number) a ∙ ap (λ (y : WorldDict). Some y) (a.step.leaves ∙ ap (after_step a.before []) r.1))
+        | inl r ↦ ap cause_in (after_answer old new d (Publish d) (effect.Published number) a ∙ ap (λ (y : WorldDict). Some y) (a.step.leaves ∙ ap (after_step a.before (Publish d)) r.1))
         | inr r ↦ let k : effect.Published number ≡ effect.Refused = a.step.answers ∙ ap (λ s. s.effect) r.0 in cc
       ]
 
   pub failing_keeps : FailingKeeps judges
   failing_keeps old new d ended a = go a.step.0 a.step.1 a.step.2
     where
-      go : (ending : Ending) → FinishesIn a.before.core.phase judges a.before.definition a.before.bytes ended ending → TakesEvent a.before (core.Finish ending) [] effect.Failing a.after → (why : Cause) × Finishes judges a.before.definition a.before.bytes ended (Failed why) × FailsFor old new d why
+      go : (ending : Ending) → FinishesIn a.before.core.phase judges (loaded a.before) ended ending → TakesEvent a.before (Finish d ended) (core.Finish ending) effect.Failing a.after → (why : Cause) × Finishes judges (loaded a.before) ended (Failed why) × FailsFor old new d why
       go Rows f t =
           elim (rows_row a.before.core) [
             | inl r ↦ let k : effect.Failing ≡ effect.Ready = t.answers ∙ ap (λ s. s.effect) r.1 in cc
@@ -101,28 +105,28 @@ module _ (judges : Verdicts) where
           ]
       go (Failed why) f t =
           elim (failed_row a.before.core why) [
-            | inl r ↦ (let is : dict_at new d ≡ Some (after_step a.before [] (failed a.before.core why)) = after_answer old new d (Finish d ended) effect.Failing a ∙ ap (λ (y : WorldDict). Some y) (t.leaves ∙ ap (after_step a.before []) r.1) in
-                (why, finishes_running a.before.core.phase judges a.before.definition a.before.bytes ended (Failed why) r.0 f, record { cause = ap cause_in is; entries = ap entries_in is ∙ sym (ap entries_in a.found) }))
+            | inl r ↦ (let is : dict_at new d ≡ Some (after_step a.before (Finish d ended) (failed a.before.core why)) = after_answer old new d (Finish d ended) effect.Failing a ∙ ap (λ (y : WorldDict). Some y) (t.leaves ∙ ap (after_step a.before (Finish d ended)) r.1) in
+                (why, finishes_running a.before.core.phase judges (loaded a.before) ended (Failed why) r.0 f, record { cause = ap cause_in is; entries = ap entries_in is ∙ sym (ap entries_in a.found); definition = ap definition_in is ∙ sym (ap definition_in a.found) }))
             | inr r ↦ let k : effect.Failing ≡ effect.Refused = t.answers ∙ ap (λ s. s.effect) r.0 in cc
           ]
 
   pub at_enter : LengthsAtEnter judges
-  at_enter n m events now r c d k answer h = go (caller_at now c d) refl h
+  at_enter n g m events now r c d k answer h = go (caller_at now c d) refl h
     where
-      go : (o : Option WorldCaller) → caller_at now c d ≡ o → slice_get (answers_in o) k ≡ Some answer → IsLengthAtEnter judges (empty_world n m) events now c d k answer
+      go : (o : Option WorldCaller) → caller_at now c d ≡ o → slice_get (answers_in o) k ≡ Some answer → IsLengthAtEnter judges (empty_world n g m) events now c d k answer
       go None e q = absurd (none-some answer q)
-      go (Some u) e q = ((sound_world judges n m events now r).callers c d u e).at_enter k answer q
+      go (Some u) e q = ((sound_world judges n g m events now r).callers c d u e).at_enter k answer q
 
   pub never_fall : NeverFall judges
-  never_fall n m events now r c d = go (caller_at now c d) refl
+  never_fall n g m events now r c d = go (caller_at now c d) refl
     where
       go : (o : Option WorldCaller) → caller_at now c d ≡ o → IsNonDecreasing (answers_in o)
       go None e = λ i j k p l. absurd (omega arith)
-      go (Some u) e = ((sound_world judges n m events now r).callers c d u e).ordered
+      go (Some u) e = ((sound_world judges n g m events now r).callers c d u e).ordered
 
   pub never_older : NeverOlder judges
-  never_older n m events now r c d u x known found =
-      let w = sound_world judges n m events now r in
+  never_older n g m events now r c d u x known found =
+      let w = sound_world judges n g m events now r in
       let floor : u.core.floor ≤ length x.entries = subst (λ (es : List WorldEntry). u.core.floor ≤ length es) (ap entries_in found) (w.callers c d u known).floor in
       let number : last_number x.entries ≡ length x.entries = last_number_is x.entries (w.dicts d x found).numbers in
       let test : nat_lt (last_number x.entries) u.core.floor ≡ false = grind (arith, nat_tests) in
@@ -173,14 +177,14 @@ module _ (judges : Verdicts) where
       go (inr (inr t)) = absurd (none-some t.caller (sym e ∙ t.found_caller))
 
   pub never_below : NeverBelowLearnt judges
-  never_below n m early untold r c d late told now s q = go s
+  never_below n g m early untold r c d late told now s q = go s
     where
-      w : IsSoundWorld judges (empty_world n m) (early ++ Learn c d ∷ []) told
-      w = sound_next judges (empty_world n m) early untold told (sound_world judges n m early untold r) (Learn c d) s
+      w : IsSoundWorld judges (empty_world n g m) (early ++ Learn c d ∷ []) told
+      w = sound_next judges (empty_world n g m) early untold told (sound_world judges n g m early untold r) (Learn c d) s
 
       from_floor : posted_of untold d ≤ floor_in (caller_at told c d) → (later : List ℕ) × (answers_of now c d ≡ answers_of told c d ++ later) × All (λ answer. posted_of untold d ≤ answer) later
       from_floor l =
-          let a = run_adds (empty_world n m) (early ++ Learn c d ∷ []) told late now c d (posted_of untold d) w q l in (a.0, a.1, a.2)
+          let a = run_adds (empty_world n g m) (early ++ Learn c d ∷ []) told late now c d (posted_of untold d) w q l in (a.0, a.1, a.2)
 
       go : CallerEvents untold c d learnt told → (later : List ℕ) × (answers_of now c d ≡ answers_of told c d ++ later) × All (λ answer. posted_of untold d ≤ answer) later
       go (inl i) =

@@ -22,6 +22,11 @@ rising_push xs y rises below k h = elim (cases_eq (k + 1) (length xs)) [
       rw (get_or_append_left xs (y ∷ []) 0 k (omega arith), get_or_append_left xs (y ∷ []) 0 (k + 1) l) (rises k l))
 ]
 
+-- an empty list has no item
+pub nil_split : {A : Type 0} (before after : List A) (z : A) → [] ≡ before ++ z ∷ after → ⊥
+nil_split [] after z e = cc
+nil_split (b ∷ before) after z e = cc
+
 -- an item is one of those before, or the last one
 pub slice_get-push : {A : Type 0} (xs : List A) (y : A) (k : ℕ) (z : A) → slice_get (xs ++ y ∷ []) k ≡ Some z → (slice_get xs k ≡ Some z) ⊎ ((k ≡ length xs) × (y ≡ z))
 slice_get-push [] y zero z h = inr (refl, same_Some y z h)
@@ -32,3 +37,20 @@ slice_get-push (x ∷ xs) y (suc k) z h = elim (slice_get-push xs y k z h) [ inl
 -- what holds of each item that is there
 pub All-from_slice_get : {A : Type 0} (P : A → Type 0) (xs : List A) → ((k : ℕ) (x : A) → slice_get xs k ≡ Some x → P x) → All P xs
 All-from_slice_get P xs h k d l = h k (get_or xs k d) (slice_get-get_or xs k d l)
+
+-- where a list has one more item, each of its items is that one, or stands in the list so far
+module _ {A : Type 0} where
+  pub split_push : (xs : List A) (y : A) (before after : List A) (z : A) → xs ++ y ∷ [] ≡ before ++ z ∷ after → ((rest : List A) × (xs ≡ before ++ z ∷ rest)) ⊎ ((before ≡ xs) × (z ≡ y))
+  split_push [] y [] after z e = inr (refl, cc)
+  split_push [] y (b ∷ before) after z e =
+      let k : [] ≡ before ++ z ∷ after = cc in
+      absurd (nil_split before after z k)
+  split_push (x ∷ xs) y [] after z e =
+      let k : x ≡ z = cc in
+      inl (xs, ap (λ (w : A). w ∷ xs) k)
+  split_push (x ∷ xs) y (b ∷ before) after z e =
+      let k : x ≡ b = cc in
+      elim (split_push xs y before after z (cc)) [
+        | inl r ↦ inl (r.0, ap (λ (w : A). w ∷ xs) k ∙ ap (λ (ws : List A). b ∷ ws) r.1)
+        | inr r ↦ inr (ap (λ (w : A). w ∷ before) (sym k) ∙ ap (λ (ws : List A). x ∷ ws) r.0, r.1)
+      ]

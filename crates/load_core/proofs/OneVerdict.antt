@@ -14,6 +14,7 @@ use Rattle.row_text.specs.Decoding.{Decodes}
 use Rattle.row_text.proofs.OneDecoding.{one-decoding}
 use Rattle.load_core.specs.FlatRows.{DecodedAs, HasKey, HasSmallKey, IsFirstLarge, HasNoTableFor, IsTable, key_bound}
 use Rattle.load_core.specs.WorldRows.{world_columns, row_verdicts}
+use Rattle.load_core.specs.WorldSteps.{Candidate}
 
 -- two rows with a large key, each behind rows with small ones, are one
 first-same : (before early : List (List Value)) (row other : List Value) (after late : List (List Value)) (key large : ℕ) → before ++ row ∷ after ≡ early ++ other ∷ late
@@ -90,11 +91,11 @@ module _ (decodes : DecodedAs) (one : (a b : Result (List (List Value)) DecodeFa
   one-cause c d p q = same-cause c d (why c p) (why d q)
 
 -- one verdict on a text
-pub one-verdict : (number : ℕ) (text : List ℕ) (verdict other : Option Cause) → row_verdicts number text verdict → row_verdicts number text other → verdict ≡ other
-one-verdict number text None None p q = refl
-one-verdict number text None (Some c) (rows, t) q = absurd (not-refused (Decodes Tab world_columns text) (one-decoding Tab world_columns text) rows c t q)
-one-verdict number text (Some c) None p (rows, t) = absurd (not-refused (Decodes Tab world_columns text) (one-decoding Tab world_columns text) rows c t p)
-one-verdict number text (Some c) (Some d) p q = ap Some (one-cause (Decodes Tab world_columns text) (one-decoding Tab world_columns text) c d p q)
+pub one-verdict : (load : Candidate) (verdict other : Option Cause) → row_verdicts load verdict → row_verdicts load other → verdict ≡ other
+one-verdict load None None p q = refl
+one-verdict load None (Some c) (rows, t) q = absurd (not-refused (Decodes Tab world_columns load.bytes) (one-decoding Tab world_columns load.bytes) rows c t q)
+one-verdict load (Some c) None p (rows, t) = absurd (not-refused (Decodes Tab world_columns load.bytes) (one-decoding Tab world_columns load.bytes) rows c t p)
+one-verdict load (Some c) (Some d) p q = ap Some (one-cause (Decodes Tab world_columns load.bytes) (one-decoding Tab world_columns load.bytes) c d p q)
 
 -- a row's key is small, or is large
 row-key : (row : List Value) → HasSmallKey row ⊎ ((key : ℕ) × HasKey row key × (key_bound ≤ key))
@@ -125,14 +126,14 @@ first-key (row ∷ rows) = elim (row-key row) [
 ]
 
 -- each text has a verdict
-pub some-verdict : (number : ℕ) (text : List ℕ) → (verdict : Option Cause) × row_verdicts number text verdict
-some-verdict number text = go (some-decoding Tab world_columns text)
+pub some-verdict : (load : Candidate) → (verdict : Option Cause) × row_verdicts load verdict
+some-verdict load = go (some-decoding Tab world_columns load.bytes)
   where
-    table : (rows : List (List Value)) → Decodes Tab world_columns text (Ok rows) → AllByRecursion HasSmallKey rows ⊎ ((key : ℕ) × IsFirstLarge rows key) → (verdict : Option Cause) × row_verdicts number text verdict
+    table : (rows : List (List Value)) → Decodes Tab world_columns load.bytes (Ok rows) → AllByRecursion HasSmallKey rows ⊎ ((key : ℕ) × IsFirstLarge rows key) → (verdict : Option Cause) × row_verdicts load verdict
     table rows d (inl small) = (None, (rows, record { decoded = d; keys = small }))
     table rows d (inr (key, first)) = (Some (cause.Key key), (rows, d, first))
 
-    go : (answer : Result (List (List Value)) DecodeFault) × Decodes Tab world_columns text answer → (verdict : Option Cause) × row_verdicts number text verdict
+    go : (answer : Result (List (List Value)) DecodeFault) × Decodes Tab world_columns load.bytes answer → (verdict : Option Cause) × row_verdicts load verdict
     go (Ok rows, d) = table rows d (first-key rows)
     go (Err (decode.Bad bad), d) = (Some (cause.Row bad), d)
     go (Err decode.TooMany, d) = (Some cause.Rows, d)

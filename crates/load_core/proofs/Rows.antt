@@ -1,5 +1,5 @@
 -- Which row of the table an event takes.
-use Rattle.std.proofs.Common.{◌≡◌, ◌≢◌, ℕ, ◌+◌, ◌<◌, ◌≤◌, ◌⊎◌, nat_lt, true, false, refl, sym, ◌∙◌, ap, inl, inr, arith, if◌then◌else◌, List, []}
+use Rattle.std.proofs.Common.{◌≡◌, ◌≢◌, ℕ, ◌+◌, ◌<◌, ◌≤◌, ◌⊎◌, nat_lt, true, false, refl, sym, ◌∙◌, ap, inl, inr, arith, if◌then◌else◌}
 use Rattle.std.proofs.lemmas.Bool.Decides.{nat_tests}
 use Rattle.dict_value.specs.declared.fault.Cause.{Cause}
 use Rattle.load_core.specs.declared.dictionary.DictCore.{DictCore}
@@ -16,7 +16,8 @@ use Rattle.load_core.specs.declared.world.WorldDict.{WorldDict}
 use Rattle.load_core.specs.DictSteps.{most_loads, DictStepped, risen, refused, row, stepped}
 use Rattle.load_core.specs.declared.world.Ended.{Ended}
 use Rattle.load_core.specs.declared.world.WorldEvent.TheVariants as event
-use Rattle.load_core.specs.WorldSteps.{Verdicts, Finishes, FinishesIn, DictStep, kept, dict_after}
+use Rattle.load_core.specs.declared.world.WorldEvent.{WorldEvent}
+use Rattle.load_core.specs.WorldSteps.{Verdicts, Candidate, Finishes, FinishesIn, DictStep, loaded, kept, dict_after}
 use Rattle.load_core.specs.Laws.{running}
 
 -- what each row leaves and answers
@@ -173,39 +174,39 @@ core_refused c Post h =
     ]
 
 -- a dictionary after what its core makes of an event
-abbrev pub after_step : WorldDict → List ℕ → DictStepped → WorldDict
-after_step x piece s = record (kept x piece s.effect) { core = s.core }
+abbrev pub after_step : WorldDict → WorldEvent → DictStepped → WorldDict
+after_step x event s = record (kept x event s.effect) { core = s.core }
 
 -- and it leaves the dictionary
-pub dict_refused : (x : WorldDict) (event : DictEvent) (piece : List ℕ) → (stepped x.core event).effect ≡ effect.Refused → dict_after x event piece ≡ x
-dict_refused x event piece h =
-    ap (λ (e : DictEffect). record (kept x piece e) { core = (stepped x.core event).core }) h
-    ∙ ap (λ (c : DictCore). record x { core = c }) (core_refused x.core event h)
+pub dict_refused : (x : WorldDict) (event : WorldEvent) (taken : DictEvent) → (stepped x.core taken).effect ≡ effect.Refused → dict_after x event taken ≡ x
+dict_refused x event taken h =
+    ap (λ (e : DictEffect). record (kept x event e) { core = (stepped x.core taken).core }) h
+    ∙ ap (λ (c : DictCore). record x { core = c }) (core_refused x.core taken h)
 
 -- where a load runs, the ending is that of how its child ended
-pub finishes_running : (p : Phase) (judges : Verdicts) (number : ℕ) (text : List ℕ) (ended : Ended) (ending : Ending) → running p ≡ 1 → FinishesIn p judges number text ended ending → Finishes judges number text ended ending
-finishes_running Idle judges number text ended ending e f = absurd (omega arith)
-finishes_running Reading judges number text ended ending e f = f
-finishes_running Ready judges number text ended ending e f = f
-finishes_running ToPost judges number text ended ending e f = absurd (omega arith)
+pub finishes_running : (p : Phase) (judges : Verdicts) (load : Candidate) (ended : Ended) (ending : Ending) → running p ≡ 1 → FinishesIn p judges load ended ending → Finishes judges load ended ending
+finishes_running Idle judges load ended ending e f = absurd (omega arith)
+finishes_running Reading judges load ended ending e f = f
+finishes_running Ready judges load ended ending e f = f
+finishes_running ToPost judges load ended ending e f = absurd (omega arith)
 
-pub running_finishes : (p : Phase) (judges : Verdicts) (number : ℕ) (text : List ℕ) (ended : Ended) (ending : Ending) → (p ≡ Reading) ⊎ (p ≡ Ready) → Finishes judges number text ended ending → FinishesIn p judges number text ended ending
-running_finishes Idle judges number text ended ending e f = tt
-running_finishes Reading judges number text ended ending e f = f
-running_finishes Ready judges number text ended ending e f = f
-running_finishes ToPost judges number text ended ending e f = tt
+pub running_finishes : (p : Phase) (judges : Verdicts) (load : Candidate) (ended : Ended) (ending : Ending) → (p ≡ Reading) ⊎ (p ≡ Ready) → Finishes judges load ended ending → FinishesIn p judges load ended ending
+running_finishes Idle judges load ended ending e f = tt
+running_finishes Reading judges load ended ending e f = f
+running_finishes Ready judges load ended ending e f = f
+running_finishes ToPost judges load ended ending e f = tt
 
 -- where none runs, each will do
-finishes_idle : (p : Phase) (judges : Verdicts) (number : ℕ) (text : List ℕ) (ended : Ended) (ending : Ending) → running p ≡ 0 → FinishesIn p judges number text ended ending
-finishes_idle Idle judges number text ended ending e = tt
-finishes_idle Reading judges number text ended ending e = absurd (omega arith)
-finishes_idle Ready judges number text ended ending e = absurd (omega arith)
-finishes_idle ToPost judges number text ended ending e = tt
+finishes_idle : (p : Phase) (judges : Verdicts) (load : Candidate) (ended : Ended) (ending : Ending) → running p ≡ 0 → FinishesIn p judges load ended ending
+finishes_idle Idle judges load ended ending e = tt
+finishes_idle Reading judges load ended ending e = absurd (omega arith)
+finishes_idle Ready judges load ended ending e = absurd (omega arith)
+finishes_idle ToPost judges load ended ending e = tt
 
 -- and a Finish leaves the dictionary
 pub idle_finish : (judges : Verdicts) (x : WorldDict) (d : ℕ) (ended : Ended) → (x.core.phase ≡ Idle) ⊎ (x.core.phase ≡ ToPost) → (answer : DictEffect) × DictStep judges x (event.Finish d ended) answer x
 idle_finish judges x d ended waits = let e : running x.core.phase ≡ 0 = elim waits [ inl i ↦ ap running i | inr i ↦ ap running i ] in elim (rows_row x.core) [
   | inl r ↦ absurd (let k : running x.core.phase ≡ 1 = ap running r.0 in omega arith)
   | inr r ↦ (let k : (stepped x.core (Finish Rows)).effect ≡ effect.Refused = ap (λ s. s.effect) r.0 in
-      (effect.Refused, (Rows, finishes_idle x.core.phase judges x.definition x.bytes ended Rows e, record { answers = sym k; leaves = sym (dict_refused x (Finish Rows) [] k) })))
+      (effect.Refused, (Rows, finishes_idle x.core.phase judges (loaded x) ended Rows e, record { answers = sym k; leaves = sym (dict_refused x (event.Finish d ended) (Finish Rows) k) })))
 ]

@@ -4,11 +4,11 @@ use Rattle.std.proofs.lemmas.Bool.{cases_eq}
 use Rattle.std.proofs.lemmas.Option.{none-some, same_Some}
 use Rattle.load_core.specs.declared.dictionary.DictEffect.{DictEffect}
 use Rattle.load_core.specs.declared.world.WorldEvent.{WorldEvent}
-use Rattle.load_core.specs.declared.world.WorldEvent.TheVariants.{Start, Piece, Finish, Publish, Post, Enter, Learn}
+use Rattle.load_core.specs.declared.world.WorldEvent.TheVariants.{Start, StartWith, Piece, Finish, Publish, Post, Enter, Learn}
 use Rattle.load_core.specs.declared.world.WorldDict.{WorldDict}
 use Rattle.load_core.specs.declared.world.WorldCaller.{WorldCaller}
 use Rattle.load_core.specs.declared.world.World.{World}
-use Rattle.load_core.specs.WorldSteps.{Verdicts, DictStep, IsAnswered, Informs, DictEvents, CallerEvents, WorldStep, Run, dict_at, caller_at, with_caller, entered, learnt}
+use Rattle.load_core.specs.WorldSteps.{Verdicts, DictStep, IsAnswered, Informs, DictEvents, NamingEvents, CallerEvents, WorldStep, Run, dict_at, caller_at, with_caller, entered, learnt}
 use Rattle.load_core.specs.Laws.{with_piece, joined}
 use Rattle.load_core.proofs.Places.{dict_at-with_same, dict_at-with_other, caller_at-with_same, caller_at-with_other_dict, caller_at-with_other}
 
@@ -121,8 +121,13 @@ module _ (judges : Verdicts) where
   dict_event_callers old new d event (inl h) c e = ap (λ (w : World). caller_at w c e) h.1.rest
   dict_event_callers old new d event (inr h) c e = ap (λ (w : World). caller_at w c e) h.1
 
+  naming_callers : (old new : World) (d definition : ℕ) (event : WorldEvent) → NamingEvents judges old d definition event new → (c e : ℕ) → caller_at new c e ≡ caller_at old c e
+  naming_callers old new d definition event (inl h) c e = dict_event_callers old new d event h.1 c e
+  naming_callers old new d definition event (inr h) c e = ap (λ (w : World). caller_at w c e) h.1
+
   pub caller_turn : (now : World) (event : WorldEvent) (next : World) → WorldStep judges now event next → (c d : ℕ) → CallerTurn now event next c d
   caller_turn now (Start e) next s c d = inl (dict_event_callers now next e (Start e) s c d)
+  caller_turn now (StartWith e definition) next s c d = inl (naming_callers now next e definition (StartWith e definition) s c d)
   caller_turn now (Piece e piece) next s c d = inl (dict_event_callers now next e (Piece e piece) s c d)
   caller_turn now (Finish e ended) next s c d = inl (dict_event_callers now next e (Finish e ended) s c d)
   caller_turn now (Publish e) next s c d = inl (dict_event_callers now next e (Publish e) s c d)

@@ -10,33 +10,34 @@ use Rattle.load_core.specs.declared.dictionary.DictEffect.{DictEffect}
 use Rattle.load_core.specs.declared.dictionary.DictEffect.TheVariants as effect
 use Rattle.load_core.specs.declared.dictionary.DictEvent.{DictEvent}
 use Rattle.load_core.specs.declared.world.WorldEvent.{WorldEvent}
-use Rattle.load_core.specs.declared.world.WorldEvent.TheVariants.{Start, Piece, Finish, Publish, Post, Enter, Learn}
+use Rattle.load_core.specs.declared.world.WorldEvent.TheVariants.{Start, StartWith, Piece, Finish, Publish, Post, Enter, Learn}
 use Rattle.load_core.specs.declared.world.WorldDict.{WorldDict}
 use Rattle.load_core.specs.declared.world.WorldCaller.{WorldCaller}
 use Rattle.load_core.specs.declared.world.World.{World}
 use Rattle.load_core.specs.DictSteps.{stepped}
-use Rattle.load_core.specs.WorldSteps.{Verdicts, TakesEvent, DictStep, DictEvents, CallerEvents, WorldStep, Run, kept, dict_at, caller_at, entered, learnt, empty_dict, empty_caller, empty_world}
+use Rattle.load_core.specs.WorldSteps.{Verdicts, TakesEvent, DictStep, DictEvents, NamingEvents, CallerEvents, WorldStep, Run, kept, dict_at, caller_at, entered, learnt, entry_of, empty_dict, empty_caller, empty_world}
 use Rattle.load_core.specs.Laws.{with_piece, entries_in, entries_of}
 use mathlib.Core.List.{IsPrefix}
 use Rattle.load_core.proofs.Callers.{IsInformed, informed_same, informed_told, informed_shown, last_number_is}
 use Rattle.load_core.proofs.Dictionaries.{IsSound, sound_same}
-use Rattle.load_core.proofs.DictionarySteps.{sound_start, sound_piece, sound_finish, sound_publish, sound_post}
+use Rattle.load_core.proofs.DictionarySteps.{sound_start, sound_start_with, sound_piece, sound_finish, sound_publish, sound_post}
+use Rattle.load_core.proofs.Lists.{nil_split}
 use Rattle.load_core.proofs.Places.{dict_at-with_same, dict_at-with_other}
 use Rattle.load_core.proofs.Runs.{run_more, at_dict, caller_turn, CallerTurn, IsShown, IsTold}
 
 -- what an answer keeps begins with the entries so far
-kept_grows : (x : WorldDict) (piece : List ℕ) (answer : DictEffect) → IsPrefix x.entries (kept x piece answer).entries
-kept_grows x piece (effect.Begun load) = ([], append-nil x.entries)
-kept_grows x piece effect.Taken = ([], append-nil x.entries)
-kept_grows x piece effect.Ready = ([], append-nil x.entries)
-kept_grows x piece effect.Failing = ([], append-nil x.entries)
-kept_grows x piece (effect.Published number) = (record { number = number; bytes = x.bytes; load = x.core.loads } ∷ [], refl)
-kept_grows x piece effect.Posted = ([], append-nil x.entries)
-kept_grows x piece effect.Refused = ([], append-nil x.entries)
+kept_grows : (x : WorldDict) (event : WorldEvent) (answer : DictEffect) → IsPrefix x.entries (kept x event answer).entries
+kept_grows x event (effect.Begun load) = ([], append-nil x.entries)
+kept_grows x event effect.Taken = ([], append-nil x.entries)
+kept_grows x event effect.Ready = ([], append-nil x.entries)
+kept_grows x event effect.Failing = ([], append-nil x.entries)
+kept_grows x event (effect.Published number) = (entry_of x number ∷ [], refl)
+kept_grows x event effect.Posted = ([], append-nil x.entries)
+kept_grows x event effect.Refused = ([], append-nil x.entries)
 
-takes_grows : (x : WorldDict) (event : DictEvent) (piece : List ℕ) (answer : DictEffect) (y : WorldDict) → TakesEvent x event piece answer y → IsPrefix x.entries y.entries
-takes_grows x event piece answer y t =
-    subst (λ (z : WorldDict). IsPrefix x.entries z.entries) (sym t.leaves) (kept_grows x piece (stepped x.core event).effect)
+takes_grows : (x : WorldDict) (event : WorldEvent) (taken : DictEvent) (answer : DictEffect) (y : WorldDict) → TakesEvent x event taken answer y → IsPrefix x.entries y.entries
+takes_grows x event taken answer y t =
+    subst (λ (z : WorldDict). IsPrefix x.entries z.entries) (sym t.leaves) (kept_grows x event (stepped x.core taken).effect)
 
 -- an event of callers leaves the dictionaries
 pub caller_event_dicts : (old new : World) (c d : ℕ) (becomes : WorldCaller → WorldDict → WorldCaller) → CallerEvents old c d becomes new → (e : ℕ) → dict_at new e ≡ dict_at old e
@@ -52,6 +53,7 @@ piece_elsewhere d e bytes piece n = let k : nat_eq e d ≡ false = grind (arith,
 module _ (judges : Verdicts) where
   step_grows : (x : WorldDict) (event : WorldEvent) (answer : DictEffect) (y : WorldDict) → DictStep judges x event answer y → IsPrefix x.entries y.entries
   step_grows x (Start d) answer y t = takes_grows x _ _ answer y t
+  step_grows x (StartWith d definition) answer y t = takes_grows x _ _ answer y t
   step_grows x (Piece d piece) answer y t = takes_grows x _ _ answer y t
   step_grows x (Finish d ended) answer y t = takes_grows x _ _ answer y t.2
   step_grows x (Publish d) answer y t = takes_grows x _ _ answer y t
@@ -68,9 +70,14 @@ module _ (judges : Verdicts) where
     | inr n ↦ same_prefix old new d (ap (λ (w : World). dict_at w d) a.rest ∙ dict_at-with_other old e d a.after n)
   ]
 
+  naming_grows : (old new : World) (e definition : ℕ) (event : WorldEvent) → NamingEvents judges old e definition event new → (d : ℕ) → IsPrefix (entries_of old d) (entries_of new d)
+  naming_grows old new e definition event (inl h) d = dict_event_grows old new e event h.1 d
+  naming_grows old new e definition event (inr h) d = same_prefix old new d (ap (λ (w : World). dict_at w d) h.1)
+
   -- no event takes an entry away
   pub event_grows : (now : World) (event : WorldEvent) (next : World) → WorldStep judges now event next → (d : ℕ) → IsPrefix (entries_of now d) (entries_of next d)
   event_grows now (Start e) next s d = dict_event_grows now next e (Start e) s d
+  event_grows now (StartWith e definition) next s d = naming_grows now next e definition (StartWith e definition) s d
   event_grows now (Piece e piece) next s d = dict_event_grows now next e (Piece e piece) s d
   event_grows now (Finish e ended) next s d = dict_event_grows now next e (Finish e ended) s d
   event_grows now (Publish e) next s d = dict_event_grows now next e (Publish e) s d
@@ -102,23 +109,29 @@ module _ (judges : Verdicts) (first : World) (past : List WorldEvent) (now next 
   dict_next (Start e) s d z found =
       at_dict judges now next (λ n. Start n) e d z (λ event y. IsSound judges first (past ++ event ∷ []) next d y)
       (λ x f n. sound_same judges first past now d x (Start e) next (w.dicts d x f) s (λ q. (tt, refl)) (λ q. tt))
-      (λ x y answer f t a. sound_start judges first past now next d x (w.dicts d x f) w.run y answer t a) s found
+      (λ x y answer f t a. sound_start judges first past now next d x (w.dicts d x f) w.run f y answer t a) s found
+  dict_next (StartWith e definition) (inl h) d z found =
+      at_dict judges now next (λ n. StartWith n definition) e d z (λ event y. IsSound judges first (past ++ event ∷ []) next d y)
+      (λ x f n. sound_same judges first past now d x (StartWith e definition) next (w.dicts d x f) (inl h) (λ q. (tt, refl)) (λ q. tt))
+      (λ x y answer f t a. sound_start_with judges first past now next d x (w.dicts d x f) w.run f definition y answer (inl (h.0, inl (answer, a))) t a) h.1 found
+  dict_next (StartWith e definition) (inr h) d z found =
+      sound_same judges first past now d z (StartWith e definition) next (w.dicts d z (ap (λ (v : World). dict_at v d) (sym h.1) ∙ found)) (inr h) (λ q. (tt, refl)) (λ q. tt)
   dict_next (Piece e piece) s d z found =
       at_dict judges now next (λ n. Piece n piece) e d z (λ event y. IsSound judges first (past ++ event ∷ []) next d y)
       (λ x f n. sound_same judges first past now d x (Piece e piece) next (w.dicts d x f) s (λ q. (tt, piece_elsewhere d e x.bytes piece n)) (λ q. tt))
-      (λ x y answer f t a. sound_piece judges first past now next d x (w.dicts d x f) w.run piece y answer t a) s found
+      (λ x y answer f t a. sound_piece judges first past now next d x (w.dicts d x f) w.run f piece y answer t a) s found
   dict_next (Finish e ended) s d z found =
       at_dict judges now next (λ n. Finish n ended) e d z (λ event y. IsSound judges first (past ++ event ∷ []) next d y)
       (λ x f n. sound_same judges first past now d x (Finish e ended) next (w.dicts d x f) s (λ q. (n, refl)) (λ q. tt))
-      (λ x y answer f t a. sound_finish judges first past now next d x (w.dicts d x f) w.run ended y answer t a) s found
+      (λ x y answer f t a. sound_finish judges first past now next d x (w.dicts d x f) w.run f ended y answer t a) s found
   dict_next (Publish e) s d z found =
       at_dict judges now next (λ n. Publish n) e d z (λ event y. IsSound judges first (past ++ event ∷ []) next d y)
       (λ x f n. sound_same judges first past now d x (Publish e) next (w.dicts d x f) s (λ q. (tt, refl)) (λ q. n))
-      (λ x y answer f t a. sound_publish judges first past now next d x (w.dicts d x f) w.run y answer t a) s found
+      (λ x y answer f t a. sound_publish judges first past now next d x (w.dicts d x f) w.run f y answer t a) s found
   dict_next (Post e) s d z found =
       at_dict judges now next (λ n. Post n) e d z (λ event y. IsSound judges first (past ++ event ∷ []) next d y)
       (λ x f n. sound_same judges first past now d x (Post e) next (w.dicts d x f) s (λ q. (tt, refl)) (λ q. tt))
-      (λ x y answer f t a. sound_post judges first past now next d x (w.dicts d x f) w.run y answer t a) s found
+      (λ x y answer f t a. sound_post judges first past now next d x (w.dicts d x f) w.run f y answer t a) s found
   dict_next (Enter a b) s d z found =
       sound_same judges first past now d z (Enter a b) next (w.dicts d z (sym (caller_event_dicts now next a b entered s d) ∙ found)) s (λ q. (tt, refl)) (λ q. tt)
   dict_next (Learn a b) s d z found =
@@ -168,8 +181,8 @@ mapped : (o : Option ℕ) (x : WorldDict) → option_map empty_dict o ≡ Some x
 mapped None x h = absurd (none-some x h)
 mapped (Some k) x h = (k, refl, sym (same_Some (empty_dict k) x h))
 
-empty_dict_at : (n m d : ℕ) (x : WorldDict) → dict_at (empty_world n m) d ≡ Some x → x ≡ empty_dict d
-empty_dict_at n m d x h =
+empty_dict_at : (n g m d : ℕ) (x : WorldDict) → dict_at (empty_world n g m) d ≡ Some x → x ≡ empty_dict d
+empty_dict_at n g m d x h =
     let k = mapped (slice_get (range_with_len 0 n) d) x (sym (slice_get-map empty_dict (range_with_len 0 n) d) ∙ h) in
     k.2 ∙ ap empty_dict (range_at 0 n d k.0 k.1 ∙ omega arith)
 
@@ -179,8 +192,8 @@ replicate_at zero x k y h = absurd (none-some y h)
 replicate_at (suc n) x zero y h = same_Some x y h
 replicate_at (suc n) x (suc k) y h = replicate_at n x k y h
 
-empty_caller_at : (n m c d : ℕ) (u : WorldCaller) → caller_at (empty_world n m) c d ≡ Some u → empty_caller ≡ u
-empty_caller_at n m c d u h = go (slice_get (replicate m (replicate n empty_caller)) c) refl h
+empty_caller_at : (n g m c d : ℕ) (u : WorldCaller) → caller_at (empty_world n g m) c d ≡ Some u → empty_caller ≡ u
+empty_caller_at n g m c d u h = go (slice_get (replicate m (replicate n empty_caller)) c) refl h
   where
     go : (o : Option (List WorldCaller)) → slice_get (replicate m (replicate n empty_caller)) c ≡ o → slice_get (unwrap_or o []) d ≡ Some u → empty_caller ≡ u
     go None e k = absurd (none-some u k)
@@ -188,11 +201,11 @@ empty_caller_at n m c d u h = go (slice_get (replicate m (replicate n empty_call
         replicate_at n empty_caller d u (subst (λ (xs : List WorldCaller). slice_get xs d ≡ Some u) (sym (replicate_at m (replicate n empty_caller) c us e)) k)
 
 module _ (judges : Verdicts) where
-  sound_empty : (n m : ℕ) → IsSoundWorld judges (empty_world n m) [] (empty_world n m)
-  sound_empty n m = record {
+  sound_empty : (n g m : ℕ) → IsSoundWorld judges (empty_world n g m) [] (empty_world n g m)
+  sound_empty n g m = record {
     run = refl;
-    dicts = λ d x found. subst (IsSound judges (empty_world n m) [] (empty_world n m) d) (sym (empty_dict_at n m d x found)) (record {
-      place = refl;
+    dicts = λ d x found. subst (IsSound judges (empty_world n g m) [] (empty_world n g m) d) (sym (empty_dict_at n g m d x found)) (record {
+      current = refl;
       published = refl;
       oks = refl;
       loads = refl;
@@ -201,11 +214,11 @@ module _ (judges : Verdicts) where
       numbers = refl;
       rising = λ k l. absurd (omega arith);
       below = All-nil _;
-      one_load = All-nil _;
+      one_load = λ before after entry e. absurd (nil_split before after entry e);
       short = omega arith;
       load = tt;
     });
-    callers = λ c d u found. subst (IsInformed judges (empty_world n m) [] (empty_world n m) c d) (empty_caller_at n m c d u found) (record {
+    callers = λ c d u found. subst (IsInformed judges (empty_world n g m) [] (empty_world n g m) c d) (empty_caller_at n g m c d u found) (record {
       floor = omega arith;
       below = All-nil _;
       ordered = λ i j d e l. absurd (omega arith);
@@ -221,5 +234,5 @@ module _ (judges : Verdicts) where
       (sound_run first (past ++ e ∷ []) r.0 es end (sound_next judges first past now r.0 w e r.1) r.2)
 
   -- every world that events lead to from the empty one is sound
-  pub sound_world : (n m : ℕ) (events : List WorldEvent) (now : World) → Run judges (empty_world n m) events now → IsSoundWorld judges (empty_world n m) events now
-  sound_world n m events now r = sound_run (empty_world n m) [] (empty_world n m) events now (sound_empty n m) r
+  pub sound_world : (n g m : ℕ) (events : List WorldEvent) (now : World) → Run judges (empty_world n g m) events now → IsSoundWorld judges (empty_world n g m) events now
+  sound_world n g m events now r = sound_run (empty_world n g m) [] (empty_world n g m) events now (sound_empty n g m) r

@@ -17,14 +17,15 @@ use Rattle.load_core.specs.declared.dictionary.Phase.TheVariants.{Idle, Reading,
 use Rattle.load_core.specs.declared.world.Ended.{Ended}
 use Rattle.load_core.specs.declared.world.Ended.TheVariants.{Whole}
 use Rattle.load_core.specs.declared.world.WorldEvent.{WorldEvent}
-use Rattle.load_core.specs.declared.world.WorldEvent.TheVariants.{Start, Piece, Finish, Publish, Enter, Learn}
+use Rattle.load_core.specs.declared.world.WorldEvent.TheVariants.{Start, StartWith, Piece, Finish, Publish}
+use Rattle.load_core.specs.declared.world.WorldEvent.TheVariants.{Enter, Learn}
 use Rattle.load_core.specs.declared.world.WorldEntry.{WorldEntry}
 use Rattle.load_core.specs.declared.world.WorldDict.{WorldDict}
 use Rattle.load_core.specs.declared.world.WorldCaller.{WorldCaller}
 use Rattle.load_core.specs.declared.world.World.{World}
 use Rattle.load_core.specs.CallerSteps.{effect_of}
 use Rattle.load_core.specs.WorldSteps.{Verdicts, Finishes, IsAnswered, WorldStep, Run, dict_at, caller_at, last_number}
-use Rattle.load_core.specs.WorldSteps.{most_bytes, empty_world}
+use Rattle.load_core.specs.WorldSteps.{candidate, loaded, most_bytes, empty_world}
 
 -- the entries of the dictionary at a place, which are none where there is no dictionary
 abbrev pub entries_in : Option WorldDict → List WorldEntry
@@ -85,11 +86,19 @@ abbrev pub IsNoPublish : ℕ → WorldEvent → Type 0
 IsNoPublish d (Publish e) = e ≢ d
 IsNoPublish d _ = Unit {0}
 
--- The entry of dictionary d is of one load in this run. The load's Start was answered with the load's number. The
--- pieces from there to its one Finish, of a child with status 0, join to the entry's bytes, which the judge accepts.
--- Its one Publish was answered with the entry's number.
+-- the event begins a load of dictionary d, which stands so, with this definition: the current one, or the one it names
+abbrev pub BeginsWith : ℕ → WorldDict → WorldEvent → ℕ → Type 0
+BeginsWith d x (Start e) definition = (e ≡ d) × (definition ≡ x.definition)
+BeginsWith d x (StartWith e named) definition = (e ≡ d) × (definition ≡ named)
+BeginsWith d x _ definition = ⊥
+
+-- The entry of dictionary d, which has these before it, is of one load in this run. The load began with the entry's
+-- definition, and was answered with the load's number. The pieces from there to its one Finish, of a child with status
+-- 0, join to the entry's bytes, which the judge accepts for that definition after the entries before it. Its one Publish
+-- was answered with the entry's number.
 pub record IsOfOneLoad (judges : Verdicts) (first : World) (events : List WorldEvent) (now : World)
-    (d : ℕ) (entry : WorldEntry) : Type 0 where
+    (d : ℕ) (before : List WorldEntry) (entry : WorldEntry) : Type 0 where
+  pub opening : WorldEvent
   pub earlier : List WorldEvent
   pub reading : List WorldEvent
   pub ready : List WorldEvent
@@ -101,14 +110,16 @@ pub record IsOfOneLoad (judges : Verdicts) (first : World) (events : List WorldE
   pub unpublished : World
   pub published : World
   pub order : events
-      ≡ earlier ++ Start d ∷ reading ++ Finish d (Whole (Code (pos 0))) ∷ ready ++ Publish d ∷ later
-  pub before : Run judges first earlier idle
-  pub start : IsAnswered judges idle d (Start d) (effect.Begun entry.load) begun
+      ≡ earlier ++ opening ∷ reading ++ Finish d (Whole (Code (pos 0))) ∷ ready ++ Publish d ∷ later
+  pub run : Run judges first earlier idle
+  pub start : IsAnswered judges idle d opening (effect.Begun entry.load) begun
+  pub definition : BeginsWith d start.before opening entry.definition
   pub pieces : Run judges begun reading read
   pub one_finish : All (IsNoFinish d) reading
   pub bytes : entry.bytes ≡ joined d [] reading
   pub finish : IsAnswered judges read d (Finish d (Whole (Code (pos 0)))) effect.Ready finished
-  pub accepted : judges d entry.bytes None
+  pub list : entries_of read d ≡ before
+  pub accepted : judges (candidate entry.definition before entry.bytes) None
   pub waiting : Run judges finished ready unpublished
   pub one_publish : All (IsNoPublish d) ready
   pub publish : IsAnswered judges unpublished d (Publish d) (effect.Published entry.number) published
@@ -128,11 +139,11 @@ pub record IsLengthAtEnter (judges : Verdicts) (first : World) (events : List Wo
   pub is_length : answer ≡ length (entries_of unshown d)
   pub after : Run judges shown later now
 
--- this holds of each run from the empty world: of that world, the events, and the world that they lead to
+-- this holds of each run from an empty world: of that world, the events, and the world that they lead to
 abbrev pub InEachRun : Verdicts → (World → List WorldEvent → World → Type 0) → Type 0
 InEachRun judges P =
-    (dictionaries callers : ℕ) (events : List WorldEvent) (now : World) →
-    Run judges (empty_world dictionaries callers) events now → P (empty_world dictionaries callers) events now
+    (dictionaries definitions callers : ℕ) (events : List WorldEvent) (now : World) →
+    (let first = empty_world dictionaries definitions callers in Run judges first events now → P first events now)
 
 -- in each world that events lead to from the empty one, each dictionary is so
 abbrev pub EachDict : Verdicts → (WorldDict → Type 0) → Type 0
@@ -165,18 +176,39 @@ Grows judges =
 abbrev pub OneLoadEach : Verdicts → Type 0
 OneLoadEach judges =
     InEachRun judges (λ first events now.
-    (d : ℕ) → All (IsOfOneLoad judges first events now d) (entries_of now d))
+    (d : ℕ) (before after : List WorldEntry) (entry : WorldEntry) → entries_of now d ≡ before ++ entry ∷ after →
+    IsOfOneLoad judges first events now d before entry)
 
--- a dictionary is left with its entries, and with this cause of its last load
+-- the definition of the last entry, or else that of the dictionary's own place
+abbrev pub newest_definition : ℕ → List WorldEntry → ℕ
+newest_definition place [] = place
+newest_definition place (entry ∷ entries) = newest_definition entry.definition entries
+
+-- a dictionary's current definition is that of its last entry, or that of its own place
+abbrev pub CurrentIsNewest : Verdicts → Type 0
+CurrentIsNewest judges =
+    InEachRun judges (λ first events now.
+    (d : ℕ) (x : WorldDict) → dict_at now d ≡ Some x → x.definition ≡ newest_definition d x.entries)
+
+-- the current definition of the dictionary at a place
+abbrev pub definition_in : Option WorldDict → Option ℕ
+definition_in None = None
+definition_in (Some x) = Some x.definition
+
+abbrev pub definition_of : World → ℕ → Option ℕ
+definition_of w d = definition_in (dict_at w d)
+
+-- a dictionary is left with its entries and its current definition, and with this cause of its last load
 pub record FailsFor (old new : World) (d : ℕ) (why : Cause) : Type 0 where
   pub cause : cause_of new d ≡ last.Of why
   pub entries : entries_of new d ≡ entries_of old d
+  pub definition : definition_of new d ≡ definition_of old d
 
--- a Finish that is answered Failing leaves the list, and its cause is the last one
+-- a Finish that is answered Failing leaves the list and the definition, and its cause is the last one
 abbrev pub FailingKeeps : Verdicts → Type 0
 FailingKeeps judges =
     (old new : World) (d : ℕ) (ended : Ended) → (a : IsAnswered judges old d (Finish d ended) effect.Failing new) →
-    (why : Cause) × Finishes judges a.before.definition a.before.bytes ended (Failed why) × FailsFor old new d why
+    (why : Cause) × Finishes judges (loaded a.before) ended (Failed why) × FailsFor old new d why
 
 -- a Publish that is answered Published clears the cause
 abbrev pub PublishedClears : Verdicts → Type 0

@@ -1,6 +1,5 @@
 -- The rows of the dictionary that `World::run` loads: a key of type UInt64 and a String with the default ''.
-use Rattle.std.specs.Prelude.{ℕ, List, [], ◌∷◌, false, Option, Some, None, Ok}
-use Rattle.dict_value.specs.declared.fault.Cause.{Cause}
+use Rattle.std.specs.Prelude.{List, [], ◌∷◌, false, Some, None, Ok}
 use Rattle.dict_value.specs.declared.value.AttrType.{AttrType}
 use Rattle.dict_value.specs.declared.value.ColType.TheVariants.{Str, UInt64}
 use Rattle.dict_value.specs.declared.value.Field.TheVariants as field
@@ -10,6 +9,7 @@ use Rattle.dict_value.specs.declared.value.Value.TheVariants.{S}
 use Rattle.dict_value.specs.Values.{reading}
 use Rattle.row_text.specs.Decoding.{Decodes, Reader}
 use Rattle.load_core.specs.FlatRows.{HasNoTableFor, IsTable}
+use Rattle.load_core.specs.WorldSteps.{Verdicts}
 
 abbrev pub key_column : Reader
 key_column seen = reading (record { base = UInt64; nullable = false }) seen
@@ -25,7 +25,7 @@ world_columns = key_column ∷ text_column ∷ []
 abbrev pub world_types : List AttrType
 world_types = record { base = UInt64; nullable = false } ∷ record { base = Str; nullable = false } ∷ []
 
--- what the judge says of a text, whatever the dictionary's number
-abbrev pub row_verdicts : ℕ → List ℕ → Option Cause → Type 0
-row_verdicts number text None = (rows : List (List Value)) × IsTable (Decodes Tab world_columns text) rows
-row_verdicts number text (Some cause) = HasNoTableFor (Decodes Tab world_columns text) cause
+-- what the judge says: it looks at the text alone
+abbrev pub row_verdicts : Verdicts
+row_verdicts load None = (rows : List (List Value)) × IsTable (Decodes Tab world_columns load.bytes) rows
+row_verdicts load (Some cause) = HasNoTableFor (Decodes Tab world_columns load.bytes) cause

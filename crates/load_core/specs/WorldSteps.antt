@@ -1,6 +1,6 @@
 -- What may happen to a world of dictionaries and callers.
-use Rattle.std.specs.Prelude.{◌≡◌, ℕ, zero, ◌+◌, ◌⊎◌, List, [], ◌∷◌, ◌++◌, length, map, replicate, Option, Some, None}
-use Rattle.std.specs.Prelude.{pos, nat_le, if◌then◌else◌, slice_get, slice_set, unwrap_or}
+use Rattle.std.specs.Prelude.{◌≡◌, ◌<◌, ◌≤◌, ℕ, zero, ◌+◌, ◌⊎◌, List, [], ◌∷◌, ◌++◌, length, map, replicate}
+use Rattle.std.specs.Prelude.{Option, Some, None, pos, nat_le, if◌then◌else◌, slice_get, slice_set, unwrap_or}
 use Rattle.std.specs.List.{range_with_len}
 use Rattle.dict_value.specs.declared.fault.Cause.{Cause}
 use Rattle.dict_value.specs.declared.fault.Cause.TheVariants as cause
@@ -18,7 +18,8 @@ use Rattle.load_core.specs.declared.caller.CallerEvent.TheVariants.{Entered, Tol
 use Rattle.load_core.specs.declared.world.Ended.{Ended}
 use Rattle.load_core.specs.declared.world.Ended.TheVariants.{Whole, Broken, TimedOut, TooLong, NotStarted, NoMemory}
 use Rattle.load_core.specs.declared.world.WorldEvent.{WorldEvent}
-use Rattle.load_core.specs.declared.world.WorldEvent.TheVariants.{Start, Piece, Finish, Publish, Post, Enter, Learn}
+use Rattle.load_core.specs.declared.world.WorldEvent.TheVariants.{Start, StartWith, Piece, Finish, Publish, Post}
+use Rattle.load_core.specs.declared.world.WorldEvent.TheVariants.{Enter, Learn}
 use Rattle.load_core.specs.declared.world.WorldEntry.{WorldEntry}
 use Rattle.load_core.specs.declared.world.WorldDict.{WorldDict}
 use Rattle.load_core.specs.declared.world.WorldCaller.{WorldCaller}
@@ -26,32 +27,50 @@ use Rattle.load_core.specs.declared.world.World.{World}
 use Rattle.load_core.specs.CallerSteps.{raised}
 use Rattle.load_core.specs.DictSteps.{empty_core, stepped}
 
--- what a judge says of a definition's number and a text: accepted, or refused with a cause
+-- what a judge sees of an entry of the list so far
+pub record Former : Type 0 where
+  pub definition : ℕ
+  pub bytes : List ℕ
+
+abbrev pub formers : List WorldEntry → List Former
+formers entries = map (λ e. record { definition = e.definition; bytes = e.bytes }) entries
+
+-- what a load would become: its definition, the entries before it, and its bytes
+pub record Candidate : Type 0 where
+  pub definition : ℕ
+  pub before : List Former
+  pub bytes : List ℕ
+
+abbrev pub candidate : ℕ → List WorldEntry → List ℕ → Candidate
+candidate definition entries bytes =
+    record { definition = definition; before = formers entries; bytes = bytes }
+
+-- what a judge says of a candidate: it is accepted, or refused with a cause
 abbrev pub Verdicts : Type 1
-Verdicts = ℕ → List ℕ → Option Cause → Type 0
+Verdicts = Candidate → Option Cause → Type 0
 
 -- how a load finishes whose whole output was read and whose child ended with status 0
-abbrev pub Judged : Verdicts → ℕ → List ℕ → Ending → Type 0
-Judged judges number text Rows = judges number text None
-Judged judges number text (Failed why) = judges number text (Some why)
+abbrev pub Judged : Verdicts → Candidate → Ending → Type 0
+Judged judges load Rows = judges load None
+Judged judges load (Failed why) = judges load (Some why)
 
 -- how a load finishes, by how its child ended
-abbrev pub Finishes : Verdicts → ℕ → List ℕ → Ended → Ending → Type 0
-Finishes judges number text NotStarted ending = ending ≡ Failed cause.Start
-Finishes judges number text Broken ending = ending ≡ Failed cause.Read
-Finishes judges number text TimedOut ending = ending ≡ Failed cause.TimedOut
-Finishes judges number text (TooLong limit) ending = ending ≡ Failed (cause.Longer limit)
-Finishes judges number text (Whole (Code (pos zero))) ending = Judged judges number text ending
-Finishes judges number text (Whole (Code status)) ending = ending ≡ Failed (cause.Status status)
-Finishes judges number text (Whole Killed) ending = ending ≡ Failed cause.Killed
-Finishes judges number text NoMemory ending = ending ≡ Failed cause.NoMemory
+abbrev pub Finishes : Verdicts → Candidate → Ended → Ending → Type 0
+Finishes judges load NotStarted ending = ending ≡ Failed cause.Start
+Finishes judges load Broken ending = ending ≡ Failed cause.Read
+Finishes judges load TimedOut ending = ending ≡ Failed cause.TimedOut
+Finishes judges load (TooLong limit) ending = ending ≡ Failed (cause.Longer limit)
+Finishes judges load (Whole (Code (pos zero))) ending = Judged judges load ending
+Finishes judges load (Whole (Code status)) ending = ending ≡ Failed (cause.Status status)
+Finishes judges load (Whole Killed) ending = ending ≡ Failed cause.Killed
+Finishes judges load NoMemory ending = ending ≡ Failed cause.NoMemory
 
 -- how a load finishes in a phase; where none runs any ending will do, since the core refuses each
-abbrev pub FinishesIn : Phase → Verdicts → ℕ → List ℕ → Ended → Ending → Type 0
-FinishesIn Idle judges number text ended ending = Unit {0}
-FinishesIn Reading judges number text ended ending = Finishes judges number text ended ending
-FinishesIn Ready judges number text ended ending = Finishes judges number text ended ending
-FinishesIn ToPost judges number text ended ending = Unit {0}
+abbrev pub FinishesIn : Phase → Verdicts → Candidate → Ended → Ending → Type 0
+FinishesIn Idle judges load ended ending = Unit {0}
+FinishesIn Reading judges load ended ending = Finishes judges load ended ending
+FinishesIn Ready judges load ended ending = Finishes judges load ended ending
+FinishesIn ToPost judges load ended ending = Unit {0}
 
 -- the greatest number of bytes that a load takes
 abbrev pub most_bytes : ℕ
@@ -61,35 +80,56 @@ most_bytes = 4294967295
 abbrev pub counted : List ℕ → List ℕ → ℕ
 counted bytes piece = if nat_le (length bytes + length piece) most_bytes then length piece else 0
 
--- what a dictionary keeps beside its core, by the core's answer
-abbrev pub kept : WorldDict → List ℕ → DictEffect → WorldDict
-kept x piece (effect.Begun load) = record x { bytes = [] }
-kept x piece effect.Taken = record x { bytes = x.bytes ++ piece }
-kept x piece (effect.Published number) =
-    record x { entries = x.entries ++ record { number = number; bytes = x.bytes; load = x.core.loads } ∷ [] }
-kept x piece effect.Posted = record x { posted = length x.entries }
-kept x piece _ = x
+-- the definition of the load that an event begins: the one that it names, or the dictionary's current one
+abbrev pub definition_for : WorldDict → WorldEvent → ℕ
+definition_for x (StartWith d definition) = definition
+definition_for x _ = x.definition
 
--- a dictionary after an event of its core, which may bring a piece
-abbrev pub dict_after : WorldDict → DictEvent → List ℕ → WorldDict
-dict_after x event piece =
-    record (kept x piece (stepped x.core event).effect) { core = (stepped x.core event).core }
+-- the bytes that an event brings
+abbrev pub piece_of : WorldEvent → List ℕ
+piece_of (Piece d piece) = piece
+piece_of _ = []
+
+-- the entry that a dictionary's load becomes
+abbrev pub entry_of : WorldDict → ℕ → WorldEntry
+entry_of x number =
+    record { number = number; definition = x.loading; bytes = x.bytes; load = x.core.loads }
+
+-- what a dictionary keeps beside its core after an event, by the core's answer
+abbrev pub kept : WorldDict → WorldEvent → DictEffect → WorldDict
+kept x event (effect.Begun load) = record x { loading = definition_for x event; bytes = [] }
+kept x event effect.Taken = record x { bytes = x.bytes ++ piece_of event }
+kept x event (effect.Published number) =
+    record x { definition = x.loading; entries = x.entries ++ entry_of x number ∷ [] }
+kept x event effect.Posted = record x { posted = length x.entries }
+kept x event _ = x
+
+-- a dictionary after an event, which is this one of its core
+abbrev pub dict_after : WorldDict → WorldEvent → DictEvent → WorldDict
+dict_after x event taken =
+    record (kept x event (stepped x.core taken).effect) { core = (stepped x.core taken).core }
 
 -- the core takes this event, answers so, and leaves the dictionary so
-pub record TakesEvent (x : WorldDict) (event : DictEvent) (piece : List ℕ) (answer : DictEffect) (y : WorldDict)
+pub record TakesEvent (x : WorldDict) (event : WorldEvent) (taken : DictEvent) (answer : DictEffect) (y : WorldDict)
     : Type 0 where
-  pub answers : answer ≡ (stepped x.core event).effect
-  pub leaves : y ≡ dict_after x event piece
+  pub answers : answer ≡ (stepped x.core taken).effect
+  pub leaves : y ≡ dict_after x event taken
+
+-- what a dictionary's load would become
+abbrev pub loaded : WorldDict → Candidate
+loaded x = candidate x.loading x.entries x.bytes
 
 -- what an event of the world makes of its dictionary x, and how x's core answers
 abbrev pub DictStep : Verdicts → WorldDict → WorldEvent → DictEffect → WorldDict → Type 0
-DictStep judges x (Start d) answer y = TakesEvent x core.Start [] answer y
-DictStep judges x (Piece d piece) answer y = TakesEvent x (core.Piece (counted x.bytes piece)) piece answer y
+DictStep judges x (Start d) answer y = TakesEvent x (Start d) core.Start answer y
+DictStep judges x (StartWith d definition) answer y = TakesEvent x (StartWith d definition) core.Start answer y
+DictStep judges x (Piece d piece) answer y =
+    TakesEvent x (Piece d piece) (core.Piece (counted x.bytes piece)) answer y
 DictStep judges x (Finish d ended) answer y =
-    (ending : Ending) × FinishesIn x.core.phase judges x.definition x.bytes ended ending
-    × TakesEvent x (core.Finish ending) [] answer y
-DictStep judges x (Publish d) answer y = TakesEvent x core.Publish [] answer y
-DictStep judges x (Post d) answer y = TakesEvent x core.Post [] answer y
+    (ending : Ending) × FinishesIn x.core.phase judges (loaded x) ended ending
+    × TakesEvent x (Finish d ended) (core.Finish ending) answer y
+DictStep judges x (Publish d) answer y = TakesEvent x (Publish d) core.Publish answer y
+DictStep judges x (Post d) answer y = TakesEvent x (Post d) core.Post answer y
 -- the others aren't events of a dictionary
 DictStep judges x (Enter c d) answer y = ⊥
 DictStep judges x (Learn c d) answer y = ⊥
@@ -157,9 +197,17 @@ abbrev pub CallerEvents : World → ℕ → ℕ → (WorldCaller → WorldDict �
 CallerEvents old c d becomes new =
     Informs old c d becomes new ⊎ (((caller_at old c d ≡ None) ⊎ (dict_at old d ≡ None)) × (new ≡ old))
 
+-- the same of an event that names a definition; where there is none of this number, nothing changes
+abbrev pub NamingEvents : Verdicts → World → ℕ → ℕ → WorldEvent → World → Type 0
+NamingEvents judges old d definition event new =
+    ((definition < old.definitions) × DictEvents judges old d event new)
+    ⊎ ((old.definitions ≤ definition) × (new ≡ old))
+
 -- from old, the event may lead to new
 abbrev pub WorldStep : Verdicts → World → WorldEvent → World → Type 0
 WorldStep judges old (Start d) new = DictEvents judges old d (Start d) new
+WorldStep judges old (StartWith d definition) new =
+    NamingEvents judges old d definition (StartWith d definition) new
 WorldStep judges old (Piece d piece) new = DictEvents judges old d (Piece d piece) new
 WorldStep judges old (Finish d ended) new = DictEvents judges old d (Finish d ended) new
 WorldStep judges old (Publish d) new = DictEvents judges old d (Publish d) new
@@ -172,18 +220,20 @@ abbrev pub Run : Verdicts → World → List WorldEvent → World → Type 0
 Run judges old [] new = new ≡ old
 Run judges old (event ∷ events) new = (mid : World) × WorldStep judges old event mid × Run judges mid events new
 
--- a dictionary that has published nothing, with the definition of this number
+-- a dictionary at a place that has published nothing: its definition is that of its place
 abbrev pub empty_dict : ℕ → WorldDict
-empty_dict number = record { definition = number; bytes = []; entries = []; posted = 0; core = empty_core }
+empty_dict place =
+    record { definition = place; loading = place; bytes = []; entries = []; posted = 0; core = empty_core }
 
 -- a caller that knows of no version
 abbrev pub empty_caller : WorldCaller
 empty_caller = record { core = record { floor = 0 }; answers = [] }
 
 -- nothing has happened
-abbrev pub empty_world : ℕ → ℕ → World
-empty_world dictionaries callers =
+abbrev pub empty_world : ℕ → ℕ → ℕ → World
+empty_world dictionaries definitions callers =
     record {
+      definitions = definitions;
       dictionaries = map empty_dict (range_with_len 0 dictionaries);
       callers = replicate callers (replicate dictionaries empty_caller);
     }

@@ -1,9 +1,8 @@
 // Who says whether the output of a load has rows.
-ghost use Rattle.std.specs.Prelude.{ℕ, List};
 ghost use Rattle.load_core.specs.WorldSteps.{Verdicts};
 
-/// Says of a definition's number and a text whether the text is accepted, or with which cause it
-/// isn't. Only contracts ask a judge.
+/// Says of a definition's number, the definitions and bytes of the entries so far, and a text, whether
+/// the text is accepted, or with which cause it isn't. Only contracts ask a judge.
 pub trait Judge {
     /// Holds where the text may be accepted (no cause), or refused with the cause.
     ghost judges: { Verdicts };

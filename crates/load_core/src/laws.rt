@@ -1,20 +1,24 @@
 // What holds over every list of events.
 ghost use Rattle.load_core.specs.Laws.{EachDict, Grows, IsNumbered, IsRising, IsCounted, IsPosted, OneLoadEach};
-ghost use Rattle.load_core.specs.Laws.{FailingKeeps, PublishedClears, RefusedKeeps, LengthsAtEnter, NeverFall};
+ghost use Rattle.load_core.specs.Laws.{CurrentIsNewest, FailingKeeps, PublishedClears, RefusedKeeps};
+ghost use Rattle.load_core.specs.Laws.{LengthsAtEnter, NeverFall};
 ghost use Rattle.load_core.specs.Laws.{NeverOlder, NeverBelowLearnt};
-ghost use Rattle.std.specs.Prelude.{◌≡◌, ℕ, List, Option};
+ghost use Rattle.std.specs.Prelude.{◌≡◌, Option};
 ghost use Rattle.dict_value.specs.declared.fault.Cause.{Cause};
 ghost use Rattle.load_core.specs.WorldRows.{row_verdicts};
+ghost use Rattle.load_core.specs.WorldSteps.{Candidate};
 
 use crate::judge::Judge;
 
-/// For every number of dictionaries and callers, every judge and every list of events from the
-/// empty world: lists only grow, by entries of whole loads that the judge accepts, and no caller
-/// goes back.
+/// For every number of dictionaries, definitions and callers, every judge and every list of events
+/// from the empty world: lists only grow, by entries of whole loads that the judge accepts after the
+/// entries before them, a dictionary's current definition is that of its last entry, and no caller goes
+/// back.
 pub fn core_law<J: Judge>()
     ensures grows { Grows J.judges }
     ensures numbers { EachDict J.judges IsNumbered }
     ensures one_load_each { OneLoadEach J.judges }
+    ensures current { CurrentIsNewest J.judges }
     ensures loads_rise { EachDict J.judges IsRising }
     ensures failing { FailingKeeps J.judges }
     ensures published { PublishedClears J.judges }
@@ -27,9 +31,10 @@ pub fn core_law<J: Judge>()
     ensures never_below { NeverBelowLearnt J.judges }
 {}
 
-/// The judge of `World::run` gives one verdict on each text: it is accepted, or refused for one cause.
+/// The judge of `World::run` gives one verdict on each text, whatever the definition and the entries so
+/// far: it is accepted, or refused for one cause.
 pub fn one_verdict()
-    ensures some { (number : ℕ) (text : List ℕ) → (verdict : Option Cause) × row_verdicts number text verdict }
-    ensures one { (number : ℕ) (text : List ℕ) (verdict other : Option Cause) → row_verdicts number text verdict
-        → row_verdicts number text other → verdict ≡ other }
+    ensures some { (load : Candidate) → (verdict : Option Cause) × row_verdicts load verdict }
+    ensures one { (load : Candidate) (verdict other : Option Cause) → row_verdicts load verdict
+        → row_verdicts load other → verdict ≡ other }
 {}

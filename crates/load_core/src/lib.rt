@@ -12,6 +12,7 @@ pub mod dictionary;
 pub mod flat;
 pub mod judge;
 pub mod laws;
+mod verdict;
 pub mod world;
 mod world_rows;
 

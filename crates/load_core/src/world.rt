@@ -2,19 +2,16 @@
 ghost use Rattle.std.specs.Prelude.{◌≡◌, [], ◌∷◌, ◌++◌, ◌≤◌, length, map, replicate, MatchOption, IfOk, OnOk, All};
 ghost use Rattle.std.specs.Prelude.{slice_get, slice_set};
 ghost use Rattle.std.specs.List.{range_with_len};
-ghost use Rattle.load_core.specs.WorldRows.{row_verdicts};
-ghost use Rattle.load_core.specs.WorldSteps.{Judged, Finishes, Run, WorldStep, counted, dict_after, dict_at, with_dict};
-ghost use Rattle.load_core.specs.WorldSteps.{caller_at, with_caller, known_to, last_number, knowing, empty_dict};
-ghost use Rattle.load_core.specs.WorldSteps.{empty_caller, empty_world, most_bytes};
-ghost use Rattle.load_core.specs.steps.WorldTurns.{DictTurn, InformsAt, IsShort, KnowsAt, TurnsAt};
+ghost use Rattle.load_core.specs.WorldSteps.{Finishes, Run, WorldStep, counted, definition_for, dict_after};
+ghost use Rattle.load_core.specs.WorldSteps.{last_number, loaded, knowing, piece_of};
+ghost use Rattle.load_core.specs.WorldSteps.{empty_dict, empty_caller, empty_world};
+ghost use Rattle.load_core.specs.steps.WorldTurns.{DictTurn, InformsAt, IsShort, KnowsAt, published_as, TurnsAt};
 
 use crate::caller::{CallerCore, CallerEvent};
 use crate::dictionary::{DictCore, DictEffect, DictEvent, Ending, Phase};
-use crate::flat::{TableFault, accept};
 use crate::judge::{Judge, RowJudge};
-use crate::world_rows::WorldColumns;
-use dict_value::{Bytes, Cause, Exit, Format, ListOf, NoMemory};
-use row_text::decode_rows;
+use crate::verdict::Asked;
+use dict_value::{Bytes, Cause, Exit, ListOf, NoMemory};
 use std::alloc::Global;
 use std::mem;
 
@@ -39,7 +36,10 @@ pub enum Ended {
 /// it is the caller's, and the second is the dictionary's.
 #[derive(Debug, Drop)]
 pub enum WorldEvent {
+    /// A load with the dictionary's current definition begins.
     Start(u32),
+    /// A load with the definition of the second number begins.
+    StartWith(u32, u32),
     Piece(u32, Bytes),
     Finish(u32, Ended),
     Publish(u32),
@@ -55,6 +55,8 @@ pub enum WorldEvent {
 pub struct WorldEntry {
     /// Which version it is, counted from 1.
     pub number: u64,
+    /// The number of its load's definition.
+    pub definition: u32,
     /// The bytes of its load.
     pub bytes: Bytes,
     /// Which load gave it, counted from 1.
@@ -64,8 +66,10 @@ pub struct WorldEntry {
 /// A dictionary with all that it has published.
 #[derive(Debug, Drop)]
 pub struct WorldDict {
-    /// The place of its definition.
+    /// The number of its current definition: that of the last entry, or else its own place.
     pub definition: u32,
+    /// The number of the definition of the load that began last, or else its own place.
+    pub loading: u32,
     /// What its load has taken.
     pub bytes: Bytes,
     pub entries: ListOf<WorldEntry>,
@@ -85,6 +89,8 @@ pub struct WorldCaller {
 /// Dictionaries by place, and for each caller what it knows of each dictionary.
 #[derive(Debug, Drop)]
 pub struct World {
+    /// How many definitions there are; they are numbered from 0.
+    pub definitions: u32,
     pub dictionaries: ListOf<WorldDict>,
     pub callers: ListOf<ListOf<WorldCaller>>,
 }
@@ -92,17 +98,38 @@ pub struct World {
 /// The greatest number of bytes that a load takes.
 const MOST_BYTES: usize = 4_294_967_295;
 
+/// The bytes that an event brings.
+fn piece_of(event: &WorldEvent) -> &[u8]
+    ensures { result.now ≡ piece_of event.now }
+{
+    match event {
+        WorldEvent::Piece(_, piece) => piece.as_slice(),
+        _ => &[],
+    }
+}
+
 impl WorldDict {
-    /// A dictionary that has published nothing.
-    fn empty(alloc: Global, definition: u32) -> WorldDict
-        ensures { result ≡ empty_dict definition }
+    /// The dictionary at a place that has published nothing.
+    fn empty(alloc: Global, place: u32) -> WorldDict
+        ensures { result ≡ empty_dict place }
     {
         WorldDict {
-            definition,
+            definition: place,
+            loading: place,
             bytes: Bytes::new(alloc),
             entries: ListOf::new(alloc),
             posted: 0,
             core: DictCore::new(),
+        }
+    }
+
+    /// The definition of the load that an event begins.
+    fn definition_for(&self, event: &WorldEvent) -> u32
+        ensures { result ≡ definition_for self.now event.now }
+    {
+        match event {
+            WorldEvent::StartWith(_, definition) => *definition,
+            _ => self.definition,
         }
     }
 
@@ -119,18 +146,19 @@ impl WorldDict {
     }
 
     /// How its load finishes, by how the child ended.
-    fn ending(&self, alloc: Global, ended: Ended) -> Result<Ending, NoMemory>
+    fn ending<J: Asked>(&self, alloc: Global, ended: Ended) -> Result<Ending, NoMemory>
         requires { IsShort self.now }
-        ensures { IfOk result (λ ending. Finishes row_verdicts self.now.definition self.now.bytes ended ending) }
+        ensures { IfOk result (λ ending. Finishes J.judges (loaded self.now) ended ending) }
     {
         let cause = match ended {
             Ended::NotStarted => Cause::Start,
             Ended::Broken => Cause::Read,
             Ended::TimedOut => Cause::TimedOut,
             Ended::TooLong(limit) => Cause::Longer(limit),
-            Ended::Whole(Exit::Code(0)) => return judged(
+            Ended::Whole(Exit::Code(0)) => return J::ask(
                 alloc,
-                self.definition,
+                self.loading,
+                self.entries.as_slice(),
                 self.bytes.as_slice(),
             ),
             Ended::Whole(Exit::Code(status)) => Cause::Status(status),
@@ -140,22 +168,33 @@ impl WorldDict {
         Ok(Ending::Failed(cause))
     }
 
-    /// One event of its core, which may bring a piece, with what it keeps by the answer.
-    fn take(&mut self, alloc: Global, event: DictEvent, piece: &[u8]) -> Result<(), NoMemory>
-        ensures { OnOk result (self.new ≡ dict_after self.old event piece.now) }
+    /// Appends the entry that its load becomes, whose definition is the current one from then on.
+    fn publish(&mut self, alloc: Global, number: u64, load: u64) -> Result<(), NoMemory>
+        ensures { OnOk result (self.new ≡ published_as self.old number load) }
+    {
+        let bytes = Bytes::copy_of(alloc, self.bytes.as_slice())?;
+        self.entries.push(WorldEntry {
+            number,
+            definition: self.loading,
+            bytes,
+            load,
+        })?;
+        self.definition = self.loading;
+        Ok(())
+    }
+
+    /// An event, which is this one of its core, with what it keeps by the answer.
+    fn take(&mut self, alloc: Global, event: &WorldEvent, taken: DictEvent) -> Result<(), NoMemory>
+        ensures { OnOk result (self.new ≡ dict_after self.old event.now taken) }
     {
         let load = self.core.loads;
-        match self.core.step(event) {
-            DictEffect::Begun(_) => self.bytes.clear(),
-            DictEffect::Taken => self.bytes.extend(piece)?,
-            DictEffect::Published(number) => {
-                let bytes = Bytes::copy_of(alloc, self.bytes.as_slice())?;
-                self.entries.push(WorldEntry {
-                    number,
-                    bytes,
-                    load,
-                })?;
+        match self.core.step(taken) {
+            DictEffect::Begun(_) => {
+                self.loading = self.definition_for(event);
+                self.bytes.clear();
             }
+            DictEffect::Taken => self.bytes.extend(piece_of(event))?,
+            DictEffect::Published(number) => self.publish(alloc, number, load)?,
             DictEffect::Posted => self.posted = self.entries.len() as u64,
             DictEffect::Ready | DictEffect::Failing | DictEffect::Refused => {}
         }
@@ -163,26 +202,28 @@ impl WorldDict {
     }
 
     /// One event of the world; those of callers leave it as it is.
-    fn happen(&mut self, alloc: Global, event: &WorldEvent) -> Result<(), NoMemory>
+    fn happen<J: Asked>(&mut self, alloc: Global, event: &WorldEvent) -> Result<(), NoMemory>
         requires { IsShort self.old }
-        ensures { OnOk result (DictTurn row_verdicts self.old event.now self.new) }
+        ensures { OnOk result (DictTurn J.judges self.old event.now self.new) }
     {
         match event {
-            WorldEvent::Start(_) => self.take(alloc, DictEvent::Start, &[]),
+            WorldEvent::Start(_) | WorldEvent::StartWith(_, _) => {
+                self.take(alloc, event, DictEvent::Start)
+            }
             WorldEvent::Piece(_, piece) => {
                 let count = self.counted(piece.as_slice());
-                self.take(alloc, DictEvent::Piece(count), piece.as_slice())
+                self.take(alloc, event, DictEvent::Piece(count))
             }
             WorldEvent::Finish(_, ended) => match self.core.phase {
                 Phase::Reading | Phase::Ready => {
-                    let ending = self.ending(alloc, *ended)?;
-                    self.take(alloc, DictEvent::Finish(ending), &[])
+                    let ending = self.ending::<J>(alloc, *ended)?;
+                    self.take(alloc, event, DictEvent::Finish(ending))
                 }
                 // The core refuses each end of a load that isn't there.
                 Phase::Idle | Phase::ToPost => Ok(()),
             },
-            WorldEvent::Publish(_) => self.take(alloc, DictEvent::Publish, &[]),
-            WorldEvent::Post(_) => self.take(alloc, DictEvent::Post, &[]),
+            WorldEvent::Publish(_) => self.take(alloc, event, DictEvent::Publish),
+            WorldEvent::Post(_) => self.take(alloc, event, DictEvent::Post),
             WorldEvent::Enter(_, _) | WorldEvent::Learn(_, _) => Ok(()),
         }
     }
@@ -195,18 +236,6 @@ impl WorldDict {
             [] => 0,
             [.., entry] => entry.number,
         }
-    }
-}
-
-/// What the judge says of a whole output.
-fn judged(alloc: Global, definition: u32, text: &[u8]) -> Result<Ending, NoMemory>
-    requires { length text.now ≤ most_bytes }
-    ensures { IfOk result (λ ending. Judged row_verdicts definition text.now ending) }
-{
-    match accept(decode_rows(alloc, Format::Tab, &WorldColumns, text)) {
-        Ok(_) => Ok(Ending::Rows),
-        Err(TableFault::Refused(cause)) => Ok(Ending::Failed(cause)),
-        Err(TableFault::NoMemory) => Err(NoMemory),
     }
 }
 
@@ -275,34 +304,42 @@ impl World {
     ghost use Rattle.load_core.specs.declared.world.WorldDict.{WorldDict};
 
     /// Nothing has happened.
-    fn empty(alloc: Global, dictionaries: u32, callers: u32) -> Result<World, NoMemory>
-        ensures { IfOk result (λ world. world ≡ empty_world dictionaries callers) }
+    fn empty(
+        alloc: Global,
+        dictionaries: u32,
+        definitions: u32,
+        callers: u32,
+    ) -> Result<World, NoMemory>
+        ensures { IfOk result (λ world. world ≡ empty_world dictionaries definitions callers) }
     {
         let mut all = ListOf::new(alloc);
         for _caller in 0..callers {
             all.push(unknowing(alloc, dictionaries)?)?;
         }
         Ok(World {
+            definitions,
             dictionaries: unpublished(alloc, dictionaries)?,
             callers: all,
         })
     }
 
     /// An event of the dictionary at a place; where there is none, nothing changes.
-    fn in_dict(self, alloc: Global, d: u32, event: &WorldEvent) -> Result<World, NoMemory>
+    fn in_dict<J: Asked>(self, alloc: Global, d: u32, event: &WorldEvent) -> Result<World, NoMemory>
         requires { All IsShort self.dictionaries }
-        ensures { IfOk result (TurnsAt row_verdicts self d event.now) }
+        ensures { IfOk result (TurnsAt J.judges self d event.now) }
     {
         let World {
+            definitions,
             dictionaries,
             callers,
         } = self;
         let mut dictionaries = dictionaries.into_vec();
         let place = d as usize;
         if place < dictionaries.len() {
-            dictionaries[place].happen(alloc, event)?;
+            dictionaries[place].happen::<J>(alloc, event)?;
         }
         Ok(World {
+            definitions,
             dictionaries: ListOf::from_vec(dictionaries),
             callers,
         })
@@ -313,6 +350,7 @@ impl World {
         ensures { IfOk result (InformsAt self c d event) }
     {
         let World {
+            definitions,
             dictionaries,
             callers,
         } = self;
@@ -323,22 +361,25 @@ impl World {
             callers[place] = informed(known, d, event)?;
         }
         Ok(World {
+            definitions,
             dictionaries,
             callers: ListOf::from_vec(callers),
         })
     }
 
     /// One event.
-    fn after(self, alloc: Global, event: &WorldEvent) -> Result<World, NoMemory>
+    fn after<J: Asked>(self, alloc: Global, event: &WorldEvent) -> Result<World, NoMemory>
         requires { All IsShort self.dictionaries }
-        ensures { IfOk result (WorldStep row_verdicts self event.now) }
+        ensures { IfOk result (WorldStep J.judges self event.now) }
     {
         match event {
+            WorldEvent::StartWith(_, definition) if *definition >= self.definitions => Ok(self),
             WorldEvent::Start(d)
+            | WorldEvent::StartWith(d, _)
             | WorldEvent::Piece(d, _)
             | WorldEvent::Finish(d, _)
             | WorldEvent::Publish(d)
-            | WorldEvent::Post(d) => self.in_dict(alloc, *d, event),
+            | WorldEvent::Post(d) => self.in_dict::<J>(alloc, *d, event),
             WorldEvent::Enter(c, d) => match self.dictionaries.as_slice().get(*d as usize) {
                 None => Ok(self),
                 Some(x) => {
@@ -356,20 +397,37 @@ impl World {
         }
     }
 
-    /// The world that these events lead to from the empty one, where each definition takes rows of one
-    /// key of type UInt64 and one String, as TabSeparated.
-    pub fn run(
+    /// The world that these events lead to from the empty one, by the judge's verdicts.
+    fn run_by<J: Asked>(
         alloc: Global,
         dictionaries: u32,
+        definitions: u32,
         callers: u32,
         events: &[WorldEvent],
     ) -> Result<World, NoMemory>
-        ensures { IfOk result (Run ⟦<RowJudge as Judge>⟧.judges (empty_world dictionaries callers) events.now) }
+        ensures { IfOk result (Run J.judges (empty_world dictionaries definitions callers) events.now) }
     {
-        let mut world = World::empty(alloc, dictionaries, callers)?;
+        let mut world = World::empty(alloc, dictionaries, definitions, callers)?;
         for event in events {
-            world = world.after(alloc, event)?;
+            world = world.after::<J>(alloc, event)?;
         }
         Ok(world)
+    }
+
+    /// The world that these events lead to from the empty one, where each definition takes rows of one
+    /// key of type UInt64 and one String, as TabSeparated. Each dictionary has at first the definition of
+    /// its own place.
+    pub fn run(
+        alloc: Global,
+        dictionaries: u32,
+        definitions: u32,
+        callers: u32,
+        events: &[WorldEvent],
+    ) -> Result<World, NoMemory>
+        requires { dictionaries ≤ definitions }
+        ensures { let first = empty_world dictionaries definitions callers in
+            IfOk result (Run ⟦<RowJudge as Judge>⟧.judges first events.now) }
+    {
+        World::run_by::<RowJudge>(alloc, dictionaries, definitions, callers, events)
     }
 }

@@ -211,3 +211,26 @@ fn long_outputs_are_read(rt: HostRuntime) -> Result<(), Fail> {
     }
     Ok(())
 }
+
+#[test]
+fn each_start_keeps_its_words(rt: HostRuntime) -> Result<(), Fail> {
+    let alloc = rt.alloc();
+    let words = [Bytes::copy_of(alloc, b"c")?, Bytes::copy_of(alloc, b"-n")?];
+    let mut spawner = spawner_of(alloc, script_of(alloc, &WHOLE)?)?;
+    let _ = run_whole(alloc, &mut spawner, &words, b"key", 5, 7);
+    // No script is left: this start fails.
+    let _ = run_whole(alloc, &mut spawner, &words[..1], b"", 5, 7);
+    let [first, second] = spawner.starts() else {
+        return Err(Fail::from("not two starts"));
+    };
+    let [program, argument] = first.as_slice() else {
+        return Err(Fail::from("not two words"));
+    };
+    assert!(rt; program.as_slice() == b"c".as_slice());
+    assert!(rt; argument.as_slice() == b"-n".as_slice());
+    let [program] = second.as_slice() else {
+        return Err(Fail::from("not one word"));
+    };
+    assert!(rt; program.as_slice() == b"c".as_slice());
+    Ok(())
+}

@@ -1,5 +1,5 @@
 use super::*;
-use dict_schema::{Format, Kind, Update};
+use dict_schema::{Format, Kind};
 use std::process::Abort;
 use std::test::Fail;
 
@@ -43,5 +43,27 @@ fn words_and_folders(rt: HostRuntime) -> Result<(), Fail> {
     for (path, folder) in &folders {
         assert!(rt; folder_of(path) == *folder);
     }
+    Ok(())
+}
+
+#[test]
+fn words_since_a_moment(rt: HostRuntime) -> Result<(), Fail> {
+    let alloc = rt.alloc();
+    let mut source = source(alloc, b"c  -n", false)?;
+    let plain = words_since(alloc, &source, b".", Since::From(130))?;
+    same_words(&rt, &plain, &[b"/bin/sh", b"-c", b"c  -n"]);
+    source.update = Update::Field {
+        name: Bytes::copy_of(alloc, b"ts")?,
+        lag: 5,
+    };
+    let whole = words_since(alloc, &source, b".", Since::Whole)?;
+    same_words(&rt, &whole, &[b"/bin/sh", b"-c", b"c  -n"]);
+    let shell = words_since(alloc, &source, b".", Since::From(100))?;
+    same_words(&rt, &shell, &[b"/bin/sh", b"-c", b"c  -n ts 95"]);
+    let early = words_since(alloc, &source, b".", Since::From(4))?;
+    same_words(&rt, &early, &[b"/bin/sh", b"-c", b"c  -n ts 0"]);
+    source.direct = true;
+    let direct = words_since(alloc, &source, b".", Since::From(130))?;
+    same_words(&rt, &direct, &[b"./user_scripts/c", b"-n", b"ts", b"125"]);
     Ok(())
 }

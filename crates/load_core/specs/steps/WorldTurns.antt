@@ -1,10 +1,11 @@
 -- What an event makes of a dictionary, an event of callers among them.
-use Rattle.std.specs.Prelude.{◌≡◌, ◌≤◌, ℕ, List, length, MatchOption, slice_get, slice_set}
+use Rattle.std.specs.Prelude.{◌≡◌, ◌≤◌, ℕ, List, [], ◌∷◌, ◌++◌, length, MatchOption, slice_get, slice_set}
 use Rattle.load_core.specs.declared.dictionary.DictEffect.{DictEffect}
 use Rattle.load_core.specs.declared.caller.CallerEvent.{CallerEvent}
 use Rattle.load_core.specs.declared.world.World.{World}
 use Rattle.load_core.specs.declared.world.WorldCaller.{WorldCaller}
 use Rattle.load_core.specs.declared.world.WorldDict.{WorldDict}
+use Rattle.load_core.specs.declared.world.WorldEntry.{WorldEntry}
 use Rattle.load_core.specs.declared.world.WorldEvent.{WorldEvent}
 use Rattle.load_core.specs.declared.world.WorldEvent.TheVariants.{Enter, Learn}
 use Rattle.load_core.specs.WorldSteps.{Verdicts, DictStep, dict_at, with_dict, caller_at, with_caller, knowing}
@@ -15,6 +16,12 @@ abbrev pub DictTurn : Verdicts → WorldDict → WorldEvent → WorldDict → Ty
 DictTurn judges x (Enter c d) y = y ≡ x
 DictTurn judges x (Learn c d) y = y ≡ x
 DictTurn judges x event y = (answer : DictEffect) × DictStep judges x event answer y
+
+-- its load became an entry
+abbrev pub published_as : WorldDict → ℕ → ℕ → WorldDict
+published_as x number load =
+    let entry : WorldEntry = record { number = number; definition = x.loading; bytes = x.bytes; load = load } in
+    record x { definition = x.loading; entries = x.entries ++ entry ∷ [] }
 
 -- it has no more bytes than a load takes
 abbrev pub IsShort : WorldDict → Type 0

@@ -22,7 +22,7 @@ fn one_dictionary_and_two_callers(rt: HostRuntime) -> Result<(), Fail> {
         WorldEvent::Enter(0, 0),
         WorldEvent::Learn(1, 0),
     ];
-    let world = World::run(rt.alloc(), 1, 2, &events)?;
+    let world = World::run(rt.alloc(), 1, 1, 2, &events)?;
     let [dictionary] = world.dictionaries.as_slice() else {
         return Err(Fail::from("not one dictionary"));
     };
@@ -54,6 +54,59 @@ fn one_dictionary_and_two_callers(rt: HostRuntime) -> Result<(), Fail> {
     assert_eq!(rt; told.core, CallerCore { floor: 1 });
     core_law::<RowJudge>();
     one_verdict();
+    Ok(())
+}
+
+#[test]
+fn loads_with_other_definitions(rt: HostRuntime) -> Result<(), Fail> {
+    let first = Bytes::copy_of(rt.alloc(), b"1\ta\n")?;
+    let second = Bytes::copy_of(rt.alloc(), b"2\tb\n")?;
+    let events = [
+        // No definition has the number 3, and no dictionary is at place 2.
+        WorldEvent::StartWith(0, 3),
+        WorldEvent::StartWith(2, 0),
+        WorldEvent::StartWith(0, 2),
+        WorldEvent::Piece(0, first),
+        // A load runs: it keeps its definition.
+        WorldEvent::StartWith(0, 1),
+        WorldEvent::Start(0),
+        WorldEvent::Finish(0, Ended::Whole(Exit::Code(0))),
+        WorldEvent::Publish(0),
+        WorldEvent::Post(0),
+        // This load has the current definition, and fails.
+        WorldEvent::Start(0),
+        WorldEvent::Finish(0, Ended::Whole(Exit::Killed)),
+        WorldEvent::Post(0),
+        WorldEvent::StartWith(0, 1),
+        WorldEvent::Piece(0, second),
+        WorldEvent::Finish(0, Ended::Whole(Exit::Code(0))),
+        WorldEvent::Publish(0),
+        WorldEvent::Post(0),
+        // A load that fails leaves the current definition.
+        WorldEvent::StartWith(0, 0),
+        WorldEvent::Finish(0, Ended::Whole(Exit::Code(1))),
+        WorldEvent::Post(0),
+    ];
+    let world = World::run(rt.alloc(), 2, 3, 0, &events)?;
+    let [changed, other] = world.dictionaries.as_slice() else {
+        return Err(Fail::from("not two dictionaries"));
+    };
+    assert_eq!(rt;
+        (changed.definition, changed.loading, changed.posted),
+        (1, 0, 2)
+    );
+    assert_eq!(rt; changed.core.cause, LastCause::Of(Cause::Status(1)));
+    let [one, two] = changed.entries.as_slice() else {
+        return Err(Fail::from("not two entries"));
+    };
+    assert_eq!(rt; (one.number, one.definition, one.load), (1, 2, 1));
+    assert_eq!(rt; one.bytes.as_slice(), b"1\ta\n".as_slice());
+    assert_eq!(rt; (two.number, two.definition, two.load), (2, 1, 3));
+    assert_eq!(rt; two.bytes.as_slice(), b"2\tb\n".as_slice());
+    assert_eq!(rt;
+        (other.definition, other.loading, other.core.loads),
+        (1, 1, 0)
+    );
     Ok(())
 }
 
@@ -96,7 +149,7 @@ fn outputs_with_their_verdicts(rt: HostRuntime) -> Result<(), Fail> {
             WorldEvent::Piece(0, piece),
             WorldEvent::Finish(0, Ended::Whole(Exit::Code(0))),
         ];
-        let world = World::run(rt.alloc(), 1, 0, &events)?;
+        let world = World::run(rt.alloc(), 1, 1, 0, &events)?;
         let [dictionary] = world.dictionaries.as_slice() else {
             return Err(Fail::from("not one dictionary"));
         };

@@ -1,4 +1,4 @@
-use Rattle.load_core.proofs.LawLemmas.{grows, numbers, loads_rise, counts, posted_is, one_load_each, failing_keeps, published_clears, refused_keeps, at_enter, never_fall, never_older, never_below}
+use Rattle.load_core.proofs.LawLemmas.{grows, numbers, loads_rise, counts, posted_is, one_load_each, current_is_newest, failing_keeps, published_clears, refused_keeps, at_enter, never_fall, never_older, never_below}
 use Rattle.load_core.proofs.laws.core_law.Goals as goal
 
 pub returns-clause-grows : goal.returns-clause-grows
@@ -9,6 +9,9 @@ returns-clause-numbers g c = numbers g.J.Judge.judges
 
 pub returns-clause-one_load_each : goal.returns-clause-one_load_each
 returns-clause-one_load_each g c = one_load_each g.J.Judge.judges
+
+pub returns-clause-current : goal.returns-clause-current
+returns-clause-current g c = current_is_newest g.J.Judge.judges
 
 pub returns-clause-loads_rise : goal.returns-clause-loads_rise
 returns-clause-loads_rise g c = loads_rise g.J.Judge.judges

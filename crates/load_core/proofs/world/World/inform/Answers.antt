@@ -11,17 +11,17 @@ use Rattle.load_core.proofs.world.World.inform.Goals.{then-place-len+in_ok-calle
 -- what comes of a world whose callers become these
 abbrev Informed : World → ℕ → ℕ → CallerEvent → List (List WorldCaller) → Type 0
 Informed w c d event callers =
-    MatchOption (caller_at w c d) (record { dictionaries = w.dictionaries; callers = callers } ≡ w) (λ u. record { dictionaries = w.dictionaries; callers = callers } ≡ with_caller w c d (knowing u event))
+    MatchOption (caller_at w c d) (record w { callers = callers } ≡ w) (λ u. record w { callers = callers } ≡ with_caller w c d (knowing u event))
 
 -- the callers with the same ones at their places
-as_they_are : (w : World) (callers : List (List WorldCaller)) → callers ≡ w.callers → record { dictionaries = w.dictionaries; callers = callers } ≡ w
+as_they_are : (w : World) (callers : List (List WorldCaller)) → callers ≡ w.callers → record w { callers = callers } ≡ w
 as_they_are w callers e = ap (λ (cs : List (List WorldCaller)). record w { callers = cs }) e
 
 -- no caller is at this place
 informed_past : (w : World) (c d : ℕ) (event : CallerEvent) (callers : List (List WorldCaller)) → callers ≡ w.callers → length w.callers ≤ c → Informed w c d event callers
 informed_past w c d event callers e l =
     let none : known_to w c ≡ [] = ap (λ (o : Option (List WorldCaller)). unwrap_or o []) (slice_get_past w.callers c l) in
-    let P : List WorldCaller → Type 0 = λ known. MatchOption (slice_get known d) (record { dictionaries = w.dictionaries; callers = callers } ≡ w) (λ u. record { dictionaries = w.dictionaries; callers = callers } ≡ with_caller w c d (knowing u event)) in
+    let P : List WorldCaller → Type 0 = λ known. MatchOption (slice_get known d) (record w { callers = callers } ≡ w) (λ u. record w { callers = callers } ≡ with_caller w c d (knowing u event)) in
     subst P (sym none) (as_they_are w callers e)
 
 -- the caller at this place knows these
@@ -37,9 +37,9 @@ informed_here w c d event known other after l e h = subst P (sym is) (go (slice_
 
     P : List WorldCaller → Type 0
     P k =
-        MatchOption (slice_get k d) (record { dictionaries = w.dictionaries; callers = set (set w.callers c other) c after } ≡ w) (λ u. record { dictionaries = w.dictionaries; callers = set (set w.callers c other) c after } ≡ record w { callers = set w.callers c (set k d (knowing u event)) })
+        MatchOption (slice_get k d) (record w { callers = set (set w.callers c other) c after } ≡ w) (λ u. record w { callers = set (set w.callers c other) c after } ≡ record w { callers = set w.callers c (set k d (knowing u event)) })
 
-    go : (o : Option WorldCaller) → MatchOption o (after ≡ known) (λ u. after ≡ slice_set known d (knowing u event)) → MatchOption o (record { dictionaries = w.dictionaries; callers = set (set w.callers c other) c after } ≡ w) (λ u. record { dictionaries = w.dictionaries; callers = set (set w.callers c other) c after } ≡ record w { callers = set w.callers c (set known d (knowing u event)) })
+    go : (o : Option WorldCaller) → MatchOption o (after ≡ known) (λ u. after ≡ slice_set known d (knowing u event)) → MatchOption o (record w { callers = set (set w.callers c other) c after } ≡ w) (λ u. record w { callers = set (set w.callers c other) c after } ≡ record w { callers = set w.callers c (set known d (knowing u event)) })
     go None k =
         as_they_are w (set (set w.callers c other) c after) (same ∙ ap (set w.callers c) (k ∙ e) ∙ set-get_or w.callers c known)
     go (Some u) k =

@@ -1,0 +1,2 @@
+pub mod OneOverlay
+pub mod Standing

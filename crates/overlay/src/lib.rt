@@ -1,0 +1,14 @@
+//! Rows that are laid over former ones, by their keys.
+//!
+//! It promises that [`overlay`] gives, of the new rows followed by the former ones, those whose key has
+//! no earlier row there, in their order, and that this is one list ([`laws`]). A key is found through a
+//! table.
+#![tactic(auto)]
+
+mod keys;
+pub mod laws;
+mod laying;
+#[cfg(test)]
+mod tests;
+
+pub use laying::overlay;
