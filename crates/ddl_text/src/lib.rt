@@ -28,7 +28,7 @@ pub use ddl_writing::write_definition;
 use dict_schema::Item;
 use dict_value::ListOf;
 use fault::FileFault;
-pub use fault::{DdlFault, DdlRefusal, fault_words};
+pub use fault::{DdlFault, DdlRefusal, fault_words, place_of};
 use std::alloc::Global;
 
 /// The items that a definitions file defines, in its order.

@@ -1,11 +1,8 @@
 pub mod CommandWords
 pub mod CoreRuns
 pub mod Definitions
-pub mod Doubling
-pub mod Fields
-pub mod FileTexts
 pub mod Lines
 pub mod OneEnd
 pub mod Requesting
+pub mod RowKeys
 pub mod Runs
-mod RowKeys
