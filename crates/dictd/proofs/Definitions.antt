@@ -1,10 +1,6 @@
 -- What was read of a definitions file.
 use Rattle.std.proofs.Common.{◌≡◌, ◌≤◌, ℕ, List, Option, None, Some, Ok, length, ap, sym, subst}
 use Rattle.dict_io.specs.Outside.{ReadsFile}
-use Rattle.dictd.specs.declared.thin.ThinDefinition.{ThinDefinition}
-use Rattle.dictd.specs.declared.thin.ThinFault.{ThinFault}
-use Rattle.dictd.specs.declared.thin.ThinFault.TheVariants.{Unsupported, NoMemory}
-use Rattle.dictd.specs.ThinText.{Defines, IsFaultAt}
 use Rattle.dictd.specs.OneRun.{IsFile, most_definitions}
 
 -- a text that was read is the file's
@@ -12,8 +8,3 @@ pub is-file : (told : Option (Option (List ℕ))) (text : List ℕ) → ReadsFil
 is-file None text r = tt
 is-file (Some None) text r = cc
 is-file (Some (Some file)) text r = (ap Some (sym r.0), subst (λ z. length z ≤ most_definitions) (sym r.0) r.1)
-
--- a text that is unsupported defines nothing
-pub no-definition : (text : List ℕ) (fault : ThinFault) → fault ≡ Unsupported → IsFaultAt (Defines text) fault → (d : ThinDefinition) → Defines text d → ⊥
-no-definition text Unsupported e not d defines = not d defines
-no-definition text NoMemory e not d defines = cc

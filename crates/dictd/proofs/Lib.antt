@@ -1,6 +1,7 @@
 pub mod CommandWords
 pub mod CoreRuns
 pub mod Definitions
+pub mod Fitting
 pub mod Lines
 pub mod OneEnd
 pub mod Requesting

@@ -7,7 +7,9 @@ use Rattle.dict_value.specs.declared.fault.Cause.TheVariants.{Killed as WasKille
 use Rattle.dict_value.specs.declared.fault.Cause.TheVariants.{NoMemory as CauseNoMemory}
 use Rattle.dict_value.specs.declared.fault.Exit.{Exit}
 use Rattle.dict_value.specs.declared.fault.Exit.TheVariants.{Code, Killed}
+use Rattle.dict_schema.specs.declared.definition.Column.{Column}
 use Rattle.dict_schema.specs.declared.definition.Definition.{Definition}
+use Rattle.dict_value.specs.Values.{FitsColumn}
 use Rattle.dict_schema.specs.declared.definition.ShapeColumn.{ShapeColumn}
 use Rattle.child_io.specs.declared.child.Script.{Script}
 use Rattle.child_io.specs.declared.pieces.PieceEnd.{PieceEnd}
@@ -125,3 +127,7 @@ pub record IsIdle (versions : List Table) (core : DictCore) : Type 0 where
 -- each row of each version has a value for each column
 abbrev pub HaveFittingRows : List ShapeColumn → List Table → Type 0
 HaveFittingRows shape versions = AllByRecursion (AllByRecursion (FitsShape shape)) versions
+
+-- each column's default is a value of its type
+abbrev pub ColumnsFit : List Column → Type 0
+ColumnsFit columns = AllByRecursion (λ (column : Column). FitsColumn column.ty column.default) columns

@@ -1,10 +1,10 @@
 // The loads of a dictionary: each starts one child, and publishes its rows or says why there are none.
-ghost use Rattle.std.specs.Prelude.{◌≡◌, ◌≢◌, ◌<◌, ◌≤◌, ◌∷◌, [], ℕ, List, ⊤, false, length, map, IfOk};
+ghost use Rattle.std.specs.Prelude.{◌≡◌, ◌≢◌, ◌<◌, ◌≤◌, ◌∷◌, [], ℕ, List, ⊤, false, length, map, slice_get, Some, IfOk};
 ghost use Rattle.dict_schema.specs.Shapes.{shape_of};
 ghost use Rattle.dict_schema.specs.Sound.{IsSoundItem};
 ghost use Rattle.std.specs.Option.{option_map};
 ghost use Rattle.child_io.specs.Runs.{RanChild, order_of};
-ghost use Rattle.ddl_writing.specs.Canonical.{definition_text};
+ghost use Rattle.ddl_writing.specs.Canonical.{DefaultFits, definition_text};
 ghost use Rattle.load_core.specs.DictSteps.{empty_core, most_loads};
 ghost use Rattle.load_core.specs.declared.dictionary.DictEvent.TheVariants.{Finish, Post};
 ghost use Rattle.load_core.specs.declared.dictionary.Ending.TheVariants.{Failed as EndFailed};
@@ -12,7 +12,7 @@ ghost use Rattle.load_core.specs.declared.dictionary.Phase.TheVariants.{Reading}
 ghost use Rattle.rows_typed.specs.Fits.{HasFittingDefaults};
 ghost use Rattle.dictd.specs.Definitions.{dictionary_in};
 ghost use Rattle.dictd.specs.Judged.{IsTableJudged, IsTableMade, ReadsChild, PublishesAs, FinishesAs};
-ghost use Rattle.dictd.specs.Loads.{HaveFittingRows, IsIdle, Loads, LoadsEach, RunsChild, core_after, end_events};
+ghost use Rattle.dictd.specs.Loads.{ColumnsFit, HaveFittingRows, IsIdle, Loads, LoadsEach, RunsChild, core_after, end_events};
 ghost use Rattle.dictd.specs.OneRun.{unloaded};
 ghost use Rattle.dictd.specs.Sessions.{holding};
 
@@ -20,8 +20,8 @@ use crate::ending::LoadEnd;
 use crate::table::{array_size, table_of};
 use child_io::{Gathered, PieceEnd, Pieces, Spawner, run_pieces, words_of};
 use ddl_text::write_definition;
-use dict_schema::{Definition, Item, Shape, shape};
-use dict_value::{Bytes, Cause, Exit, ListOf, NoMemory};
+use dict_schema::{Column, Definition, Item, Shape, shape};
+use dict_value::{Bytes, Cause, Exit, ListOf, NoMemory, fits_column};
 use load_core::{DictCore, DictEffect, DictEvent, Ending, TableFault};
 use packed_rows::Rows;
 use rows_typed::decode;
@@ -224,6 +224,18 @@ fn finish(
     }
 }
 
+/// Sees once more that each default is a value of its column, as the judgement of definitions says.
+fn see_defaults(columns: &[Column])
+    requires { (place : ℕ) (column : Column) → slice_get columns.now place ≡ Some column → DefaultFits column }
+    ensures { ColumnsFit columns.now }
+{
+    for column in columns {
+        if !fits_column(&column.ty, &column.default) {
+            unreachable!();
+        }
+    }
+}
+
 /// A dictionary: its definition with its one text, what its children are started with, the columns of their rows, and
 /// its versions.
 #[derive(Drop)]
@@ -237,7 +249,9 @@ pub struct Dictionary {
     pub core: DictCore,
     ghost text_is: { text ≡ definition_text definition },
     ghost shape_is: { shape ≡ shape_of definition },
-    ghost columns: { length shape ≤ 4294967295 },
+    ghost columns: { length definition.columns ≤ 64 },
+    ghost keys: { length definition.keys ≤ 16 },
+    ghost few: { length shape ≤ 4294967295 },
     ghost defaults: { HasFittingDefaults shape },
     ghost idle: { IsIdle versions core },
     ghost fit: { HaveFittingRows shape versions },
@@ -255,6 +269,7 @@ impl Dictionary {
         let Item::Dictionary(definition) = item else {
             return Ok(None);
         };
+        see_defaults(definition.columns.as_slice());
         let words = words_of(alloc, &definition.source, folder)?;
         let shape = shape(alloc, &definition)?;
         Ok(Some(Dictionary {
