@@ -1,9 +1,11 @@
 pub mod CommandWords
 pub mod CoreRuns
-pub mod Definitions
+pub mod FileReads
 pub mod Fitting
 pub mod Lines
+pub mod Loading
 pub mod OneEnd
 pub mod Requesting
 pub mod RowKeys
+pub mod Telling
 pub mod Runs
