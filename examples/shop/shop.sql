@@ -1,4 +1,4 @@
--- Three dictionaries of a shop, whose rows come from files beside this one.
+-- Three dictionaries of a shop.
 
 CREATE DICTIONARY colours (
   id UInt64,
@@ -6,7 +6,7 @@ CREATE DICTIONARY colours (
   since Nullable(Date)
 )
 PRIMARY KEY id
-SOURCE(EXECUTABLE(command 'cat examples/shop/colours.tsv' format 'TabSeparated'))
+SOURCE(EXECUTABLE(command 'printf "1\\tred\\t2019-03-01\\n2\\tgreen\\t\\\\N\\n"' format 'TabSeparated'))
 LAYOUT(FLAT())
 LIFETIME(0);
 
@@ -16,12 +16,12 @@ CREATE DICTIONARY shop.prices (
   label String
 )
 PRIMARY KEY item
-SOURCE(EXECUTABLE(command 'cat examples/shop/prices.csv' format CSV))
+SOURCE(EXECUTABLE(command 'printf "10,4.50,\\"table, round\\"\\n11,129.00,chair\\n"' format CSV))
 LAYOUT(FLAT(MAX_ARRAY_SIZE 1000))
 SETTINGS(max_output_bytes = 65536)
 COMMENT 'one line for each item';
 
--- A program of the folder user_scripts, run without a shell.
+-- Its program lies in user_scripts beside this file, and is run without a shell.
 CREATE DICTIONARY squares (n UInt64, square UInt64)
 PRIMARY KEY n
 SOURCE(EXECUTABLE(command 'squares.sh 12' format TSV execute_direct 1))
