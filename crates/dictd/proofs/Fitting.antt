@@ -36,8 +36,9 @@ use Rattle.dictd.specs.declared.ending.LoadEnd.{LoadEnd}
 use Rattle.dictd.specs.declared.ending.LoadEnd.TheVariants.{Published, Failed, NoMemory as EndNoMemory}
 use Rattle.dictd.specs.Judged.{FinishesAs, IsRead}
 use Rattle.dictd.specs.Loads.{ColumnsFit, HaveFittingRows, Ran}
-use Rattle.dictd.specs.Printing.{IsPrintable}
-use Rattle.dictd.specs.Tables.{Table, first_row, value_of_key}
+use Rattle.ddl_writing.specs.Canonical.{DefaultsFit, DefaultFits as DefaultFitsColumn}
+use Rattle.dictd.specs.Printing.{HasColumnType, IsPrintable}
+use Rattle.dictd.specs.Tables.{Table, first_row, is_key, value_of_key}
 
 -- ---- the columns of a shape
 
@@ -65,6 +66,11 @@ shape-fits d all =
     AllByRecursion-append DefaultFits (columns_at d Key d.keys) (end_columns d d.range ++ attribute_columns d) (columns-fit d Key d.keys all)
     (AllByRecursion-append DefaultFits (end_columns d d.range) (attribute_columns d) (ends-fit d d.range all) (columns-fit d Attribute (filter (is_attribute d) (range_with_len 0 (length d.columns))) all))
 
+-- where no column is said to have another default, it can't be that one has
+columns-twice : (columns : List Column) → ((k : ℕ) (column : Column) → slice_get columns k ≡ Some column → DefaultFitsColumn column) → (ColumnsFit columns → ⊥) → ⊥
+columns-twice [] fit no = no tt
+columns-twice (c ∷ cs) fit no = fit 0 c refl (λ here. columns-twice cs (λ k x e. fit (suc k) x e) (λ all. no (here, all)))
+
 -- ---- how many columns there are
 
 pub few-columns : (d : Definition) → AreClear (table d) → length d.columns ≤ 64
@@ -81,7 +87,7 @@ few-keys d clear = by_size (cases_lt 16 (length d.keys)) where
 
 -- ---- values that can be printed
 
-pub default-printable : (t : AttrType) (v : Value) → FitsColumn t v → IsPrintable t v
+default-printable : (t : AttrType) (v : Value) → FitsColumn t v → HasColumnType t v
 default-printable t Null p = tt
 default-printable t (U n) p = p
 default-printable t (I n) p = p
@@ -93,7 +99,7 @@ default-printable t (V4 n) p = p
 default-printable t (V6 n) p = p
 default-printable t (Dec n) p = p
 
-role-printable : (role : Role) (t : AttrType) (v : Value) → FitsRole role t v → IsPrintable t v
+role-printable : (role : Role) (t : AttrType) (v : Value) → FitsRole role t v → HasColumnType t v
 role-printable role t Null p = tt
 role-printable role t (U n) p = p
 role-printable role t (I n) p = p
@@ -105,13 +111,13 @@ role-printable role t (V4 n) p = p
 role-printable role t (V6 n) p = p
 role-printable role t (Dec n) p = p
 
-cell-printable : (shape : List ShapeColumn) (row : List Value) (place : ℕ) (column : ShapeColumn) (v : Value) → FitsShape shape row → slice_get shape place ≡ Some column → slice_get row place ≡ Some v → IsPrintable column.ty v
+cell-printable : (shape : List ShapeColumn) (row : List Value) (place : ℕ) (column : ShapeColumn) (v : Value) → FitsShape shape row → slice_get shape place ≡ Some column → slice_get row place ≡ Some v → HasColumnType column.ty v
 cell-printable [] row place column v fits s r = cc
 cell-printable (c ∷ cs) [] place column v fits s r = cc
 cell-printable (c ∷ cs) (x ∷ xs) zero column v fits s r =
     let same : c ≡ column = cc in
     let value : x ≡ v = cc in
-    let P : ShapeColumn → Type 0 = λ (z : ShapeColumn). IsPrintable z.ty v in
+    let P : ShapeColumn → Type 0 = λ (z : ShapeColumn). HasColumnType z.ty v in
     subst P same (role-printable c.role c.ty v (subst (FitsRole c.role c.ty) value fits.0))
 cell-printable (c ∷ cs) (x ∷ xs) (suc place) column v fits s r = cell-printable cs xs place column v fits.1 s r
 
@@ -127,24 +133,27 @@ found-fits test shape (x ∷ xs) row all e = by_test (test (slice_get x 0)) refl
       let later : first_row test xs ≡ Some row = sym (rw is refl) ∙ e in
       found-fits test shape xs row all.1 later
 
-value-printable : (t : AttrType) (default : Value) (cell : Option Value) → IsPrintable t default → ((v : Value) → cell ≡ Some v → IsPrintable t v) → IsPrintable t (option_map_or (λ v. v) cell default)
+value-printable : (t : AttrType) (default : Value) (cell : Option Value) → HasColumnType t default → ((v : Value) → cell ≡ Some v → HasColumnType t v) → HasColumnType t (option_map_or (λ v. v) cell default)
 value-printable t default None d some = d
 value-printable t default (Some v) d some = some v refl
 
-row-printable : (t : AttrType) (default : Value) (place : ℕ) (found : Option (List Value)) → IsPrintable t default → ((row : List Value) (v : Value) → found ≡ Some row → slice_get row place ≡ Some v → IsPrintable t v)
-    → IsPrintable t (option_map_or (λ row. option_map_or (λ v. v) (slice_get row place) default) found default)
+row-printable : (t : AttrType) (default : Value) (place : ℕ) (found : Option (List Value)) → HasColumnType t default → ((row : List Value) (v : Value) → found ≡ Some row → slice_get row place ≡ Some v → HasColumnType t v)
+    → HasColumnType t (option_map_or (λ row. option_map_or (λ v. v) (slice_get row place) default) found default)
 row-printable t default place None d some = d
 row-printable t default place (Some row) d some = value-printable t default (slice_get row place) d (λ v e. some row v refl e)
 
-entry-fits : (shape : List ShapeColumn) (versions : List Table) (n : ℕ) (rows : Table) → HaveFittingRows shape versions → entry versions n ≡ Some rows → AllByRecursion (FitsShape shape) rows
+entry-fits : (shape : List ShapeColumn) (versions : List Table) (n : ℕ) (rows : Table) → HaveFittingRows shape versions → entry versions n ≡ Some rows → (AllByRecursion (FitsShape shape) rows → ⊥) → ⊥
 entry-fits shape versions zero rows fit e = cc
-entry-fits shape versions (suc n) rows fit e = all-at (AllByRecursion (FitsShape shape)) versions n rows fit e
+entry-fits shape versions (suc n) rows fit e = fit n rows e
 
 -- the value of a key in a version can be printed
-pub found-printable : (shape : List ShapeColumn) (versions : List Table) (n place key : ℕ) (rows : Table) (column : ShapeColumn) → HasFittingDefaults shape → HaveFittingRows shape versions → entry versions n ≡ Some rows → slice_get shape place ≡ Some column → IsPrintable column.ty (value_of_key rows place column.default key)
-found-printable shape versions n place key rows column defaults fit e here =
-    row-printable column.ty column.default place (first_row _ rows) (default-printable column.ty column.default (all-at DefaultFits shape place column defaults here))
-    (λ row v found cell. cell-printable shape row place column v (found-fits _ shape rows row (entry-fits shape versions n rows fit e) found) here cell)
+pub found-printable : (d : Definition) (shape : List ShapeColumn) (versions : List Table) (n place key : ℕ) (rows : Table) (column : ShapeColumn) → shape ≡ shape_of d → DefaultsFit d → HaveFittingRows shape versions → entry versions n ≡ Some rows → slice_get shape place ≡ Some column
+    → IsPrintable column.ty (value_of_key rows place column.default key)
+found-printable d shape versions n place key rows column is defaults fit e here = λ no.
+    columns-twice d.columns defaults (λ columns.
+    entry-fits shape versions n rows fit e (λ all.
+    no (row-printable column.ty column.default place (first_row (is_key key) rows) (default-printable column.ty column.default (all-at DefaultFits shape place column (subst HasFittingDefaults (sym is) (shape-fits d columns)) here))
+    (λ row v found cell. cell-printable shape row place column v (found-fits (is_key key) shape rows row all found) here cell))))
 
 -- ---- versions
 
@@ -153,14 +162,26 @@ decoded-fit shape format text rows defaults decoded =
     each-fits (IsTypedRow format (columns_of format shape)) (FitsShape shape) _ rows
     (λ line row typed. row-fits format shape typed.0 row defaults typed.1.1 typed.2) decoded.typed
 
+get-push : {X : Type 0} (xs : List X) (y : X) (n : ℕ) (x : X) → slice_get (xs ++ y ∷ []) n ≡ Some x → (slice_get xs n ≡ Some x) ⊎ (y ≡ x)
+get-push [] y zero x e = let same : y ≡ x = cc in inr same
+get-push [] y (suc n) x e = cc
+get-push (z ∷ zs) y zero x e = inl e
+get-push (z ∷ zs) y (suc n) x e = get-push zs y n x e
+
+-- the versions after one more, whose rows fit
+fit-push : (shape : List ShapeColumn) (old new : List Table) (rows : Table) → new ≡ old ++ rows ∷ [] → AllByRecursion (FitsShape shape) rows → HaveFittingRows shape old → HaveFittingRows shape new
+fit-push shape old new rows list own fit = λ n some e. by_place n some (get-push old rows n some (ap (λ z. slice_get z n) (sym list) ∙ e)) where
+  by_place : (n : ℕ) (some : Table) → (slice_get old n ≡ Some some) ⊎ (rows ≡ some) → (AllByRecursion (FitsShape shape) some → ⊥) → ⊥
+  by_place n some (inl before) = fit n some before
+  by_place n some (inr same) = λ no. no (subst (AllByRecursion (FitsShape shape)) same own)
+
 -- the versions after a load
 pub fit-after : (ran : Ran) (d : Definition) (words : List (List ℕ)) (output : List ℕ) (ending : PieceEnd) (read : Result Table TableFault) (end : LoadEnd) (shape : List ShapeColumn) (old new : List Table) → shape ≡ shape_of d → HasFittingDefaults shape
     → IsRead ran d words output ending read → FinishesAs old read end new → HaveFittingRows shape old → HaveFittingRows shape new
 fit-after ran d words output ending (Ok rows) (Published n) shape old new is defaults given finished fit =
     let own = decoded-fit (shape_of d) d.source.format output rows (subst HasFittingDefaults is defaults) given.2.decoded in
     let P : List ShapeColumn → Type 0 = λ z. AllByRecursion (FitsShape z) rows in
-    let all = AllByRecursion-append (AllByRecursion (FitsShape shape)) old (rows ∷ []) fit (subst P (sym is) own, tt) in
-    subst (HaveFittingRows shape) (sym finished.0) all
+    fit-push shape old new rows finished.0 (subst P (sym is) own) fit
 fit-after ran d words output ending (Ok rows) (Failed cause) shape old new is defaults given finished fit = absurd finished
 fit-after ran d words output ending (Ok rows) EndNoMemory shape old new is defaults given finished fit = subst (HaveFittingRows shape) (sym finished) fit
 fit-after ran d words output ending (Err (Refused cause)) end shape old new is defaults given finished fit = subst (HaveFittingRows shape) (sym finished.1) fit

@@ -5,7 +5,7 @@ use Rattle.std.specs.Option.{option_map}
 use Rattle.child_io.specs.declared.child.Script.{Script}
 use Rattle.load_core.proofs.Places.{set-slice_get}
 use Rattle.dictd.specs.declared.ending.LoadEnd.{LoadEnd}
-use Rattle.dictd.specs.declared.load.Dictionary.{Dictionary}
+use Rattle.dictd.specs.declared.dictionary.Dictionary.{Dictionary}
 use Rattle.dictd.specs.Loads.{Holding, Loads, LoadsEach, Ran}
 use Rattle.dictd.specs.Sessions.{holding}
 
@@ -81,9 +81,9 @@ loaded-end ran old before now between place s all = by_rest s.rest s.parts s.sta
       let Q : List Holding → Type 0 = λ z. LoadsEach ran s.front before z between in
       subst P (sym (parts ∙ append-nil s.front)) (subst Q (sym (stand ∙ append-nil s.loaded)) s.loads)
   by_rest (x ∷ rest) parts stand = absurd (
-    let e : length now ≡ length s.loaded + length (x ∷ rest) = ap length stand ∙ length-append s.loaded (x ∷ rest) in
-    let c = s.count in
-    omega (arith, e, c, all))
+      let e : length now ≡ length s.loaded + length (x ∷ rest) = ap length stand ∙ length-append s.loaded (x ∷ rest) in
+      let c = s.count in
+      omega (arith, e, c, all))
 
 -- ---- the program's dictionaries
 

@@ -44,9 +44,12 @@ pub looks-up : (held : List Holding) (asked : Lookup) (place key : ℕ) (one : H
 looks-up held asked place key one reply of_key named (inl (at, column, is, value)) =
     inl (wanted_of one at column key, record { key = of_key; at = place; dictionary = named; attribute = is }, value)
 looks-up held asked place key one reply of_key named (inr (none, e)) =
-    inr ((λ wanted is.
-        let P : Holding → Type 0 = λ z. IsColumnAt z asked.attribute wanted.place wanted.column in
-        none wanted.place wanted.column (subst P (sym (first-once held asked.name place is.at one wanted.dictionary named is.dictionary)) is.attribute)), e)
+    inr (
+      (λ wanted is.
+          let P : Holding → Type 0 = λ z. IsColumnAt z asked.attribute wanted.place wanted.column in
+          none wanted.place wanted.column (subst P (sym (first-once held asked.name place is.at one wanted.dictionary named is.dictionary)) is.attribute)),
+      e,
+    )
 
 pub no-key : (held : List Holding) (asked : Lookup) (reply : List ℕ) → ((key : ℕ) → IsOfKey asked key → ⊥) → reply ≡ refusal (codes "1") → LooksUp held asked reply
 no-key held asked reply none e = inr ((λ wanted is. none wanted.key is.key), e)

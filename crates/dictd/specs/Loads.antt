@@ -1,5 +1,5 @@
 -- One load: what a child printed and how it ended, and what becomes of a dictionary.
-use Rattle.std.specs.Prelude.{◌≡◌, ◌≢◌, ◌<◌, ◌≤◌, ◌⊎◌, ℕ, List, [], ◌∷◌, ◌++◌, ⊤, Option, length, map, pos, if◌then◌else◌}
+use Rattle.std.specs.Prelude.{◌≡◌, ◌≢◌, ◌<◌, ◌≤◌, ◌⊎◌, ℕ, List, [], ◌∷◌, ◌++◌, ⊤, Option, Some, length, map, pos, slice_get, if◌then◌else◌}
 use Rattle.std.specs.List.{AllByRecursion, concat}
 use Rattle.dict_value.specs.declared.fault.Cause.{Cause}
 use Rattle.dict_value.specs.declared.fault.Cause.TheVariants.{Start as NoStart, Read, TimedOut, Status}
@@ -124,9 +124,10 @@ pub record IsIdle (versions : List Table) (core : DictCore) : Type 0 where
   pub counted : core.published ≡ length versions
   pub fewer : core.published ≤ core.loads
 
--- each row of each version has a value for each column
+-- it can't be that a row of a version has not a fitting value for each column
 abbrev pub HaveFittingRows : List ShapeColumn → List Table → Type 0
-HaveFittingRows shape versions = AllByRecursion (AllByRecursion (FitsShape shape)) versions
+HaveFittingRows shape versions =
+    (n : ℕ) (rows : Table) → slice_get versions n ≡ Some rows → (AllByRecursion (FitsShape shape) rows → ⊥) → ⊥
 
 -- each column's default is a value of its type
 abbrev pub ColumnsFit : List Column → Type 0

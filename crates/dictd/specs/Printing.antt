@@ -18,6 +18,10 @@ abbrev pub printed : AttrType → Value → List ℕ
 printed t v = field_text (field_of_value t v)
 
 -- it is NULL, or a value of the column's type
+abbrev pub HasColumnType : AttrType → Value → Type 0
+HasColumnType t Null = ⊤
+HasColumnType t v = HasType t.base v
+
+-- it can't be that it is neither
 abbrev pub IsPrintable : AttrType → Value → Type 0
-IsPrintable t Null = ⊤
-IsPrintable t v = HasType t.base v
+IsPrintable t v = (HasColumnType t v → ⊥) → ⊥

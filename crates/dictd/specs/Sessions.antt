@@ -12,7 +12,7 @@ use Rattle.wire_text.specs.declared.request.Request.TheVariants.{Asked, Reload, 
 use Rattle.dictd.specs.declared.ending.LoadEnd.{LoadEnd}
 use Rattle.dictd.specs.declared.input.InputEnd.{InputEnd}
 use Rattle.dictd.specs.declared.input.InputEnd.TheVariants.{Ended, Failed, TooLong}
-use Rattle.dictd.specs.declared.load.Dictionary.{Dictionary}
+use Rattle.dictd.specs.declared.dictionary.Dictionary.{Dictionary}
 use Rattle.dictd.specs.Loads.{Holding, Loads, Ran}
 use Rattle.dictd.specs.Requests.{AreOthers, IsFirstNamed, IsValue, IsWanted, LinesThen, Wanted}
 use Rattle.dictd.specs.Requests.{load_reply, refusal, shown_reply}

@@ -1,7 +1,7 @@
 // The loads of a dictionary: each starts one child, and publishes its rows or says why there are none.
 ghost use Rattle.std.specs.Prelude.{◌≡◌, ◌≢◌, ◌<◌, ◌≤◌, ◌∷◌, [], ℕ, List, ⊤, false, length, map, slice_get, Some, IfOk};
 ghost use Rattle.dict_schema.specs.Shapes.{shape_of};
-ghost use Rattle.dict_schema.specs.Sound.{IsSoundItem};
+ghost use Rattle.dict_schema.specs.Sound.{IsSound, IsSoundItem};
 ghost use Rattle.std.specs.Option.{option_map};
 ghost use Rattle.child_io.specs.Runs.{RanChild, order_of};
 ghost use Rattle.ddl_writing.specs.Canonical.{DefaultFits, definition_text};
@@ -16,6 +16,7 @@ ghost use Rattle.dictd.specs.Loads.{ColumnsFit, HaveFittingRows, IsIdle, Loads, 
 ghost use Rattle.dictd.specs.OneRun.{unloaded};
 ghost use Rattle.dictd.specs.Sessions.{holding};
 
+use crate::dictionary::{Dictionary, NoFact};
 use crate::ending::LoadEnd;
 use crate::table::{array_size, table_of};
 use child_io::{Gathered, PieceEnd, Pieces, Spawner, run_pieces, words_of};
@@ -26,15 +27,7 @@ use load_core::{DictCore, DictEffect, DictEvent, Ending, TableFault};
 use packed_rows::Rows;
 use rows_typed::decode;
 use std::alloc::Global;
-use version_slot::{Fact, PlainSlot, Publisher, Token};
-
-/// The fact of a slot whose entries need none: where they come from is said of each load.
-#[derive(Drop)]
-pub struct NoFact;
-
-impl Fact<Rows> for NoFact {
-    ghost allows = { λ _ _. ⊤ };
-}
+use version_slot::{PlainSlot, Publisher, Token};
 
 /// Takes a child's output, and steps the core by one piece for each read.
 #[derive(Drop)]
@@ -236,50 +229,47 @@ fn see_defaults(columns: &[Column])
     }
 }
 
-/// A dictionary: its definition with its one text, what its children are started with, the columns of their rows, and
-/// its versions.
-#[derive(Drop)]
-pub struct Dictionary {
-    pub definition: Definition,
-    /// The definition's one text.
-    pub text: Bytes,
-    pub words: ListOf<Bytes>,
-    pub shape: Shape,
-    pub versions: PlainSlot<Rows, NoFact>,
-    pub core: DictCore,
-    ghost text_is: { text ≡ definition_text definition },
-    ghost shape_is: { shape ≡ shape_of definition },
-    ghost columns: { length definition.columns ≤ 64 },
-    ghost keys: { length definition.keys ≤ 16 },
-    ghost few: { length shape ≤ 4294967295 },
-    ghost defaults: { HasFittingDefaults shape },
-    ghost idle: { IsIdle versions core },
-    ghost fit: { HaveFittingRows shape versions },
-}
-
 impl Dictionary {
-    /// A dictionary without a version; a program that needs no shell lies in the folder. An item that is a function
-    /// gives none.
+    /// The dictionary of an item, without a version; a function gives none. A program that needs no shell lies in the
+    /// folder.
     pub fn new(alloc: Global, item: Item, folder: &[u8]) -> Result<Option<Dictionary>, NoMemory>
         requires { IsSoundItem item }
         ensures { IfOk result (λ made. option_map holding made ≡ option_map (unloaded folder.now) (dictionary_in item)) }
     {
         let mut text = Bytes::new(alloc);
         write_definition(&item, &mut text)?;
-        let Item::Dictionary(definition) = item else {
-            return Ok(None);
-        };
-        see_defaults(definition.columns.as_slice());
+        match item {
+            Item::Dictionary(definition) => {
+                match Dictionary::defined(alloc, definition, text, folder) {
+                    Ok(dictionary) => Ok(Some(dictionary)),
+                    Err(_fault) => Err(NoMemory),
+                }
+            }
+            Item::Function(_function) => Ok(None),
+        }
+    }
+
+    /// The dictionary of a definition with its one text, without a version.
+    fn defined(
+        alloc: Global,
+        definition: Definition,
+        text: Bytes,
+        folder: &[u8],
+    ) -> Result<Dictionary, NoMemory>
+        requires sound { IsSound definition }
+        requires text { text ≡ definition_text definition }
+        ensures { IfOk result (λ made. holding made ≡ unloaded folder.now definition) }
+    {
         let words = words_of(alloc, &definition.source, folder)?;
         let shape = shape(alloc, &definition)?;
-        Ok(Some(Dictionary {
+        Ok(Dictionary {
             definition,
             text,
             words,
             shape,
             versions: PlainSlot::new(alloc),
             core: DictCore::new(),
-        }))
+        })
     }
 
     /// One load, which leaves the list of versions where it fails.
@@ -296,6 +286,7 @@ impl Dictionary {
             DictEffect::Begun(_) => {}
             _ => return LoadEnd::Failed(Cause::Spent),
         }
+        see_defaults(self.definition.columns.as_slice());
         let read = read_child(
             alloc,
             spawner,

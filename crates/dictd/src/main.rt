@@ -8,6 +8,7 @@
 #![tactic(auto)]
 
 mod definitions;
+mod dictionary;
 mod ending;
 mod input;
 mod laws;

@@ -8,8 +8,9 @@ ghost use Rattle.dictd.specs.Sessions.{holding};
 ghost use Rattle.dictd.specs.Statuses.{Tells, status_text};
 
 use crate::definitions::are_served;
+use crate::dictionary::Dictionary;
 use crate::input::{InputEnd, read_input};
-use crate::load::{Dictionary, load_each};
+use crate::load::load_each;
 use crate::reply::Buffers;
 use crate::session::serve_input;
 use crate::status::{Status, tell};

@@ -1,12 +1,9 @@
 // Replies, composed in buffers that are used again for each of them.
 ghost use Rattle.std.specs.Prelude.{◌≡◌, ◌≢◌, ◌++◌, ◌∷◌, [], OnOk, codes};
-ghost use Rattle.std.specs.List.{AllByRecursion};
-ghost use Rattle.dict_value.specs.Values.{FitsColumn};
 ghost use Rattle.dict_value.specs.declared.value.Field.TheVariants.{Text};
 ghost use Rattle.dict_value.specs.declared.value.Value.TheVariants.{Null};
 ghost use Rattle.packed_rows.specs.Cells.{meaning};
 ghost use Rattle.row_text.specs.TabRow.{field_text};
-ghost use Rattle.rows_typed.specs.Fits.{FitsShape};
 ghost use Rattle.dictd.specs.Printing.{IsPrintable, printed};
 ghost use Rattle.dictd.specs.Requests.{load_reply, value_reply, version_name};
 ghost use Rattle.dictd.specs.Tables.{value_of_key};
@@ -14,7 +11,7 @@ ghost use Rattle.dictd.specs.Tables.{value_of_key};
 use crate::ending::LoadEnd;
 use crate::table::find_row;
 use dict_schema::ShapeColumn;
-use dict_value::{AttrType, Bytes, NoMemory, push_number, write_value};
+use dict_value::{AttrType, Bytes, NoMemory, fits_column, push_number, write_value};
 use packed_rows::{Cell, Rows, cell_of, value_of};
 use row_text::write_text;
 use std::alloc::Global;
@@ -65,11 +62,15 @@ fn push_plain(
     ty: &AttrType,
     cell: &Cell<'_>,
 ) -> Result<(), NoMemory>
-    requires fits { FitsColumn ty.now (meaning cell.now) }
+    requires fits { IsPrintable ty.now (meaning cell.now) }
     requires some { meaning cell.now ≢ Null }
     ensures { OnOk result (out.new ≡ out.old ++ printed ty.now (meaning cell.now)) }
 {
     let value = value_of(alloc, cell)?;
+    // The rows and the defaults of a version fit their columns.
+    if !fits_column(ty, &value) {
+        unreachable!();
+    }
     text.clear();
     write_value(ty, &value, text)?;
     write_text(text.as_slice(), out)

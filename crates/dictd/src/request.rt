@@ -6,7 +6,7 @@ ghost use Rattle.dictd.specs.Loads.{Holding};
 ghost use Rattle.dictd.specs.Requests.{AreOthers, IsAttributeAt, IsFirstNamed, IsKeyIn, IsOfKey};
 ghost use Rattle.dictd.specs.Sessions.{holding};
 
-use crate::load::Dictionary;
+use crate::dictionary::Dictionary;
 use dict_schema::{Definition, column_at, is_attribute};
 use dict_value::{Field, Fields, read_digits};
 use wire_text::{Asked, Verb};

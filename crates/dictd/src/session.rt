@@ -4,8 +4,8 @@ ghost use Rattle.dict_io.specs.Outside.{HasCause};
 ghost use Rattle.dictd.specs.Asking.{LooksIn};
 ghost use Rattle.dictd.specs.Sessions.{LooksUp, Says, SaysRequest, ServesInput, ServesLines, Shows, WritesReply, holding, state_of};
 
+use crate::dictionary::Dictionary;
 use crate::input::{Input, InputEnd};
-use crate::load::Dictionary;
 use crate::reply::{
     Buffers, NO_MEMORY_REPLY, TOO_LONG_REPLY, load_reply, plain_reply, shown_reply, value_reply,
 };
