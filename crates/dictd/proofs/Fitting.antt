@@ -1,6 +1,8 @@
 -- Values that fit their columns: the defaults of a shape, the rows of versions, and what is found among them.
 use Rattle.std.proofs.Common.{◌≡◌, ◌<◌, ◌≤◌, ◌+◌, ◌∷◌, ◌++◌, ◌∙◌, [], Bool, true, false, ℕ, zero, suc, List, Option, Some, None, Result, Ok, Err, length, refl, sym, ap, subst, inl, inr, ◌⊎◌, arith, if◌then◌else◌}
 use Rattle.std.proofs.lemmas.Bool.{cases_lt}
+use Rattle.std.proofs.lemmas.List.{length-append}
+use Rattle.std.proofs.lemmas.List.FromFn.{length-range_with_len}
 use Rattle.std.proofs.lemmas.Option.{slice_get_cases}
 use Rattle.std.specs.Prelude.{find, slice_get}
 use Rattle.std.specs.List.{AllByRecursion, AllZip, filter, filter_map, range_with_len}
@@ -49,10 +51,10 @@ all-at P (y ∷ ys) (suc k) x all e = all-at P ys k x all.1 e
 
 columns-fit : (d : Definition) (role : Role) (places : List ℕ) → ColumnsFit d.columns → HasFittingDefaults (columns_at d role places)
 columns-fit d role [] all = tt
-columns-fit d role (p ∷ ps) all = by_column (slice_get_cases d.columns p).1 where
-  by_column : ((x : Column) × (p < length d.columns) × (slice_get d.columns p ≡ Some x) × _) ⊎ ((length d.columns ≤ p) × (slice_get d.columns p ≡ None)) → HasFittingDefaults (columns_at d role (p ∷ ps))
-  by_column (inl (x, low, here, same)) = rw here (all-at (λ (column : Column). FitsColumn column.ty column.default) d.columns p x all here, columns-fit d role ps all)
-  by_column (inr (past, none)) = rw none (columns-fit d role ps all)
+columns-fit d role (p ∷ ps) all = by_column (slice_get_cases d.columns p).1 (columns-fit d role ps all) where
+  by_column : ((x : Column) × (p < length d.columns) × (slice_get d.columns p ≡ Some x) × _) ⊎ ((length d.columns ≤ p) × (slice_get d.columns p ≡ None)) → HasFittingDefaults (columns_at d role ps) → HasFittingDefaults (columns_at d role (p ∷ ps))
+  by_column (inl (x, low, here, same)) rest = rw here (all-at (λ (column : Column). FitsColumn column.ty column.default) d.columns p x all here, rest)
+  by_column (inr (past, none)) rest = rw none rest
 
 abbrev DefaultFits : ShapeColumn → Type 0
 DefaultFits column = FitsColumn column.ty column.default
@@ -68,8 +70,8 @@ shape-fits d all =
 
 -- where no column is said to have another default, it can't be that one has
 columns-twice : (columns : List Column) → ((k : ℕ) (column : Column) → slice_get columns k ≡ Some column → DefaultFitsColumn column) → (ColumnsFit columns → ⊥) → ⊥
-columns-twice [] fit no = no tt
-columns-twice (c ∷ cs) fit no = fit 0 c refl (λ here. columns-twice cs (λ k x e. fit (suc k) x e) (λ all. no (here, all)))
+columns-twice [] fit un = un tt
+columns-twice (c ∷ cs) fit un = fit 0 c refl (λ here. columns-twice cs (λ k x e. fit (suc k) x e) (λ all. un (here, all)))
 
 -- ---- how many columns there are
 
@@ -84,6 +86,42 @@ few-keys d clear = by_size (cases_lt 16 (length d.keys)) where
   by_size : (16 < length d.keys) ⊎ (length d.keys ≤ 16) → length d.keys ≤ 16
   by_size (inl many) = absurd (clear.1.0 (fault.Limit which.Keys (length d.keys)) (refl, inr many))
   by_size (inr few) = few
+
+filter-few : {X : Type 0} (p : X → Bool) (xs : List X) → length (filter p xs) ≤ length xs
+filter-few p [] = omega arith
+filter-few p (x ∷ xs) = by_test (p x) refl (filter-few p xs) where
+  by_test : (t : Bool) → p x ≡ t → length (filter p xs) ≤ length xs → length (filter p (x ∷ xs)) ≤ length (x ∷ xs)
+  by_test true is rest = rw is (omega (arith, rest))
+  by_test false is rest = rw is (omega (arith, rest))
+
+columns-few : (d : Definition) (role : Role) (places : List ℕ) → length (columns_at d role places) ≤ length places
+columns-few d role [] = omega arith
+columns-few d role (p ∷ ps) = by_column (slice_get_cases d.columns p).1 (columns-few d role ps) where
+  by_column : ((x : Column) × (p < length d.columns) × (slice_get d.columns p ≡ Some x) × _) ⊎ ((length d.columns ≤ p) × (slice_get d.columns p ≡ None)) → length (columns_at d role ps) ≤ length ps → length (columns_at d role (p ∷ ps)) ≤ length (p ∷ ps)
+  by_column (inl (x, low, here, same)) rest = rw here (omega (arith, rest))
+  by_column (inr (past, none)) rest = rw none (omega (arith, rest))
+
+ends-few : (d : Definition) (ends : RangeOf) → length (end_columns d ends) ≤ 2
+ends-few d range.None = omega arith
+ends-few d (range.Columns start end) =
+    let a = columns-few d Start (start ∷ []) in
+    let b = columns-few d End (end ∷ []) in
+    let e = length-append (columns_at d Start (start ∷ [])) (columns_at d End (end ∷ [])) in
+    omega (arith, a, b, e)
+
+pub few-shape : (d : Definition) → AreClear (table d) → length (shape_of d) ≤ 4294967295
+few-shape d clear =
+    let own = filter (is_attribute d) (range_with_len 0 (length d.columns)) in
+    let a = columns-few d Key d.keys in
+    let b = ends-few d d.range in
+    let c = columns-few d Attribute own in
+    let f = filter-few (is_attribute d) (range_with_len 0 (length d.columns)) in
+    let r = length-range_with_len 0 (length d.columns) in
+    let k = few-keys d clear in
+    let n = few-columns d clear in
+    let e = length-append (columns_at d Key d.keys) (end_columns d d.range ++ attribute_columns d) in
+    let g = length-append (end_columns d d.range) (attribute_columns d) in
+    omega (arith, a, b, c, f, r, k, n, e, g)
 
 -- ---- values that can be printed
 
@@ -123,15 +161,13 @@ cell-printable (c ∷ cs) (x ∷ xs) (suc place) column v fits s r = cell-printa
 
 found-fits : (test : Option Value → Bool) (shape : List ShapeColumn) (rows : Table) (row : List Value) → AllByRecursion (FitsShape shape) rows → first_row test rows ≡ Some row → FitsShape shape row
 found-fits test shape [] row all e = cc
-found-fits test shape (x ∷ xs) row all e = by_test (test (slice_get x 0)) refl where
-  by_test : (t : Bool) → test (slice_get x 0) ≡ t → FitsShape shape row
-  by_test true is =
+found-fits test shape (x ∷ xs) row all e = by_test (test (slice_get x 0)) refl (found-fits test shape xs row all.1) where
+  by_test : (t : Bool) → test (slice_get x 0) ≡ t → (first_row test xs ≡ Some row → FitsShape shape row) → FitsShape shape row
+  by_test true is later =
       let here : Some x ≡ Some row = sym (rw is refl) ∙ e in
       let same : x ≡ row = cc in
       subst (FitsShape shape) same all.0
-  by_test false is =
-      let later : first_row test xs ≡ Some row = sym (rw is refl) ∙ e in
-      found-fits test shape xs row all.1 later
+  by_test false is later = later (sym (rw is refl) ∙ e)
 
 value-printable : (t : AttrType) (default : Value) (cell : Option Value) → HasColumnType t default → ((v : Value) → cell ≡ Some v → HasColumnType t v) → HasColumnType t (option_map_or (λ v. v) cell default)
 value-printable t default None d some = d
@@ -149,10 +185,10 @@ entry-fits shape versions (suc n) rows fit e = fit n rows e
 -- the value of a key in a version can be printed
 pub found-printable : (d : Definition) (shape : List ShapeColumn) (versions : List Table) (n place key : ℕ) (rows : Table) (column : ShapeColumn) → shape ≡ shape_of d → DefaultsFit d → HaveFittingRows shape versions → entry versions n ≡ Some rows → slice_get shape place ≡ Some column
     → IsPrintable column.ty (value_of_key rows place column.default key)
-found-printable d shape versions n place key rows column is defaults fit e here = λ no.
+found-printable d shape versions n place key rows column is defaults fit e here = λ un.
     columns-twice d.columns defaults (λ columns.
     entry-fits shape versions n rows fit e (λ all.
-    no (row-printable column.ty column.default place (first_row (is_key key) rows) (default-printable column.ty column.default (all-at DefaultFits shape place column (subst HasFittingDefaults (sym is) (shape-fits d columns)) here))
+    un (row-printable column.ty column.default place (first_row (is_key key) rows) (default-printable column.ty column.default (all-at DefaultFits shape place column (subst HasFittingDefaults (sym is) (shape-fits d columns)) here))
     (λ row v found cell. cell-printable shape row place column v (found-fits (is_key key) shape rows row all found) here cell))))
 
 -- ---- versions
@@ -173,7 +209,7 @@ fit-push : (shape : List ShapeColumn) (old new : List Table) (rows : Table) → 
 fit-push shape old new rows list own fit = λ n some e. by_place n some (get-push old rows n some (ap (λ z. slice_get z n) (sym list) ∙ e)) where
   by_place : (n : ℕ) (some : Table) → (slice_get old n ≡ Some some) ⊎ (rows ≡ some) → (AllByRecursion (FitsShape shape) some → ⊥) → ⊥
   by_place n some (inl before) = fit n some before
-  by_place n some (inr same) = λ no. no (subst (AllByRecursion (FitsShape shape)) same own)
+  by_place n some (inr same) = λ un. un (subst (AllByRecursion (FitsShape shape)) same own)
 
 -- the versions after a load
 pub fit-after : (ran : Ran) (d : Definition) (words : List (List ℕ)) (output : List ℕ) (ending : PieceEnd) (read : Result Table TableFault) (end : LoadEnd) (shape : List ShapeColumn) (old new : List Table) → shape ≡ shape_of d → HasFittingDefaults shape

@@ -1,3 +1,4 @@
+pub mod ClearDefaults
 pub mod CommandWords
 pub mod CoreRuns
 pub mod FileReads
@@ -5,7 +6,9 @@ pub mod Fitting
 pub mod Lines
 pub mod Loading
 pub mod OneEnd
+pub mod Places
 pub mod Requesting
 pub mod RowKeys
-pub mod Telling
 pub mod Runs
+pub mod TableMade
+pub mod Telling

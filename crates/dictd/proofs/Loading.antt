@@ -1,5 +1,6 @@
 -- Dictionaries loaded one after another, and one of them at its place.
 use Rattle.std.proofs.Common.{◌≡◌, ◌<◌, ◌≤◌, ◌+◌, ℕ, zero, suc, List, [], ◌∷◌, ◌++◌, length, map, refl, ap, sym, ◌∙◌, subst, append_assoc, append-nil, arith, Option, Some, None, slice_get, slice_set}
+use Rattle.std.proofs.lemmas.List.{length-append}
 use Rattle.std.proofs.lemmas.Option.{slice_get-map}
 use Rattle.std.specs.Option.{option_map}
 use Rattle.child_io.specs.declared.child.Script.{Script}
@@ -68,10 +69,6 @@ loaded-next ran old before now between place one loaded end later after s here l
         count = length-push s.loaded loaded ∙ ap (λ n. n + 1) s.count;
         loads = subst P same (loads-push ran s.front s.loaded before between after one loaded end s.loads load);
       }
-
-pub length-append : {X : Type 0} (xs ys : List X) → length (xs ++ ys) ≡ length xs + length ys
-length-append [] ys = refl
-length-append (x ∷ xs) ys = let e = length-append xs ys in omega (arith, e)
 
 pub loaded-end : (ran : Ran) (old : List Holding) (before : Option (List Script)) (now : List Holding) (between : Option (List Script)) (place : ℕ) → LoadedSoFar ran old before now between place → length now ≤ place → LoadsEach ran old before now between
 loaded-end ran old before now between place s all = by_rest s.rest s.parts s.stand where

@@ -11,6 +11,7 @@ use Rattle.dict_value.specs.declared.fault.Exit.TheVariants.{Code, Killed}
 use Rattle.dict_value.specs.declared.value.Value.{Value}
 use Rattle.row_text.specs.Decoding.{Decoded}
 use Rattle.row_text.specs.declared.decode.DecodeFault.{DecodeFault}
+use Rattle.row_text.specs.declared.decode.DecodeFault.TheVariants.{Bad, TooMany}
 use Rattle.row_text.proofs.OneDecoding.{one-decoding}
 use Rattle.rows_typed.specs.Shapes.{columns_of}
 use Rattle.dictd.specs.declared.ending.LoadEnd.{LoadEnd}
@@ -39,8 +40,8 @@ not-large bound rows others key same none (row, found, here) =
     let e = sym found ∙ subst P same none in cc
 
 pub not-refused : (d : Definition) (output : List ℕ) (rows : Table) (cause : Cause) → IsTableIn d output rows → ¬ IsRefused d output cause
-not-refused d output rows (cause.Row bad) t p = no-fault d output rows _ t.decoded p
-not-refused d output rows cause.Rows t p = no-fault d output rows _ t.decoded p
+not-refused d output rows (cause.Row bad) t p = no-fault d output rows (Bad bad) t.decoded p
+not-refused d output rows cause.Rows t p = no-fault d output rows TooMany t.decoded p
 not-refused d output rows (cause.Key key) t (others, decoded, large) =
     not-large (array_size d.layout) rows others key (one-decoded d output rows others t.decoded decoded) t.small large
 not-refused d output rows cause.Start t p = p
@@ -78,9 +79,9 @@ one-cause d output (cause.Row bad) (cause.Longer n) p q = absurd q
 one-cause d output (cause.Row bad) (cause.Prefix n) p q = absurd q
 one-cause d output (cause.Row bad) cause.Spent p q = absurd q
 one-cause d output (cause.Row bad) cause.NoMemory p q = absurd q
-one-cause d output (cause.Row bad) (cause.Row bad2) p q = let e = one-fault d output _ _ p q in cc
-one-cause d output (cause.Row bad) cause.Rows p q = let e = one-fault d output _ _ p q in cc
-one-cause d output (cause.Row bad) (cause.Key key2) p (rows, q, large) = absurd (no-fault d output rows _ q p)
+one-cause d output (cause.Row bad) (cause.Row bad2) p q = let e = one-fault d output (Bad bad) (Bad bad2) p q in cc
+one-cause d output (cause.Row bad) cause.Rows p q = let e = one-fault d output (Bad bad) TooMany p q in cc
+one-cause d output (cause.Row bad) (cause.Key key2) p (rows, q, large) = absurd (no-fault d output rows (Bad bad) q p)
 one-cause d output cause.Rows cause.Start p q = absurd q
 one-cause d output cause.Rows cause.Read p q = absurd q
 one-cause d output cause.Rows cause.TimedOut p q = absurd q
@@ -90,9 +91,9 @@ one-cause d output cause.Rows (cause.Longer n) p q = absurd q
 one-cause d output cause.Rows (cause.Prefix n) p q = absurd q
 one-cause d output cause.Rows cause.Spent p q = absurd q
 one-cause d output cause.Rows cause.NoMemory p q = absurd q
-one-cause d output cause.Rows (cause.Row bad2) p q = let e = one-fault d output _ _ p q in cc
+one-cause d output cause.Rows (cause.Row bad2) p q = let e = one-fault d output TooMany (Bad bad2) p q in cc
 one-cause d output cause.Rows cause.Rows p q = refl
-one-cause d output cause.Rows (cause.Key key2) p (rows, q, large) = absurd (no-fault d output rows _ q p)
+one-cause d output cause.Rows (cause.Key key2) p (rows, q, large) = absurd (no-fault d output rows TooMany q p)
 one-cause d output (cause.Key key) cause.Start p q = absurd q
 one-cause d output (cause.Key key) cause.Read p q = absurd q
 one-cause d output (cause.Key key) cause.TimedOut p q = absurd q
@@ -102,8 +103,8 @@ one-cause d output (cause.Key key) (cause.Longer n) p q = absurd q
 one-cause d output (cause.Key key) (cause.Prefix n) p q = absurd q
 one-cause d output (cause.Key key) cause.Spent p q = absurd q
 one-cause d output (cause.Key key) cause.NoMemory p q = absurd q
-one-cause d output (cause.Key key) (cause.Row bad2) (rows, p, large) q = absurd (no-fault d output rows _ p q)
-one-cause d output (cause.Key key) cause.Rows (rows, p, large) q = absurd (no-fault d output rows _ p q)
+one-cause d output (cause.Key key) (cause.Row bad2) (rows, p, large) q = absurd (no-fault d output rows (Bad bad2) p q)
+one-cause d output (cause.Key key) cause.Rows (rows, p, large) q = absurd (no-fault d output rows TooMany p q)
 one-cause d output (cause.Key key) (cause.Key key2) (rows, p, large) (others, q, large2) = ap cause.Key (one-large (array_size d.layout) rows others key key2 (one-decoded d output rows others p q) large large2)
 
 -- a child that ended so has one cause

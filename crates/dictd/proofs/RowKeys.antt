@@ -1,9 +1,11 @@
 -- Rows looked up by their first value, cell by cell.
-use Rattle.std.proofs.Common.{◌≡◌, ◌<◌, ◌≤◌, ◌+◌, ◌∷◌, ◌∙◌, [], Bool, true, false, ℕ, zero, suc, List, Option, Some, None, length, drop, refl, ap, arith}
+use Rattle.std.proofs.Common.{◌≡◌, ◌<◌, ◌≤◌, ◌+◌, ◌∷◌, ◌∙◌, [], Bool, true, false, ℕ, zero, suc, List, Option, Some, None, length, drop, refl, ap, sym, arith, ◌⊎◌, inl, inr}
 use Rattle.std.specs.Prelude.{slice_get}
 use Rattle.dict_value.specs.declared.value.Value.{Value}
-use Rattle.packed_rows.specs.Columns.{cell_at}
-use Rattle.dictd.specs.Tables.{Table, first_row}
+use Rattle.std.proofs.lemmas.Option.{slice_get_cases}
+use Rattle.dict_value.specs.declared.value.Value.TheVariants.{U}
+use Rattle.packed_rows.specs.Columns.{cell_at, cell_of}
+use Rattle.dictd.specs.Tables.{IsFirstLarge, Table, first_row, is_large}
 
 find-skips : (test : Option Value → Bool) (rows : Table) (place : ℕ) → place < length rows → test (cell_at rows place 0) ≡ false
     → first_row test (drop place rows) ≡ first_row test (drop (suc place) rows)
@@ -30,3 +32,15 @@ find-none test [] zero past = refl
 find-none test [] (suc place) past = refl
 find-none test (row ∷ rows) zero past = absurd (omega arith)
 find-none test (row ∷ rows) (suc place) past = find-none test rows place (omega arith)
+
+-- a large key that stands in the first row which wasn't passed
+pub large-here : (bound key : ℕ) (rows : Table) (place : ℕ) → place < length rows → cell_at rows place 0 ≡ Some (U key) → is_large bound (Some (U key)) ≡ true
+    → first_row (is_large bound) (drop place rows) ≡ first_row (is_large bound) rows → IsFirstLarge bound rows key
+large-here bound key rows place below cell large so_far = by_row (slice_get_cases rows place).1 where
+  by_row : ((row : List Value) × (place < length rows) × (slice_get rows place ≡ Some row) × _) ⊎ ((length rows ≤ place) × (slice_get rows place ≡ None)) → IsFirstLarge bound rows key
+  by_row (inl (row, low, here, same)) = (
+    row,
+    sym so_far ∙ sym (find-here (is_large bound) rows place below (ap (is_large bound) cell ∙ large)) ∙ here,
+    sym (ap (λ o. cell_of o 0) here) ∙ cell,
+  )
+  by_row (inr (past, none)) = absurd (omega (arith, below, past))

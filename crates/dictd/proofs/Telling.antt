@@ -1,12 +1,11 @@
 -- Pieces written one after another.
 use Rattle.std.proofs.Common.{◌≡◌, ◌<◌, ◌≤◌, ◌+◌, ◌++◌, ℕ, List, Option, Result, Ok, Err, length, take, ap, sym, ◌∙◌, subst, arith, append_assoc}
 use Rattle.std.proofs.Math.Seq.{take-append-add}
-use Rattle.std.proofs.lemmas.List.{take-append-le}
+use Rattle.std.proofs.lemmas.List.{length-append, take-append-le}
 use Rattle.std.specs.Io.KnownBytes.{append_known}
 use Rattle.dict_io.specs.Outside.{WritesPrefix}
 use Rattle.dict_io.specs.declared.outside.Failed.{Failed}
 use Rattle.dict_io.proofs.Known.{append_known-twice}
-use Rattle.dictd.proofs.Loading.{length-append}
 
 -- a second piece behind a whole first one
 pub wrote-both : (old mid new : Option (List ℕ)) (first second : List ℕ) (result : Result (Unit {0}) Failed) → mid ≡ append_known old first → WritesPrefix mid new second result → WritesPrefix old new (first ++ second) result
@@ -24,7 +23,3 @@ wrote-first old new first second failed other (n, low, a) = (
   (let e = length-append first second in omega (arith, e, low)),
   a ∙ ap (append_known old) (sym (take-append-le n first second low)),
 )
-
--- the parts of a fault's text
-pub grouped : (a b c d e : List ℕ) → (a ++ b) ++ ((c ++ d) ++ e) ≡ a ++ (b ++ (c ++ (d ++ e)))
-grouped a b c d e = append_assoc a b ((c ++ d) ++ e) ∙ ap (λ z. a ++ (b ++ z)) (append_assoc c d e)

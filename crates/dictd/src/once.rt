@@ -59,7 +59,13 @@ fn read_definitions<F: Shelf>(
     ensures cause { HasCause (F.shelf_faults shelf.old) (F.shelf_faults shelf.new) (IsErrOf result Status.DefsUnread) }
 {
     match shelf.read_file(name, MOST_DEFINITIONS) {
-        Ok(text) => read_items(alloc, text.as_slice()),
+        Ok(text) => {
+            // A shelf that tells nothing of its files doesn't promise it.
+            if text.len() > MOST_DEFINITIONS as usize {
+                return Err(Status::DefsTooLong);
+            }
+            read_items(alloc, text.as_slice())
+        }
         Err(ShelfFault::Failed) => Err(Status::DefsUnread),
         Err(ShelfFault::TooLong) => Err(Status::DefsTooLong),
         Err(ShelfFault::NoMemory) => Err(Status::NoMemory),

@@ -77,6 +77,7 @@ fn push_plain(
 }
 
 /// Appends a value as a reply has it.
+#[tactic(auto, unfolding(dict_value::specs::Values::value_text))]
 fn push_value(
     alloc: Global,
     out: &mut Bytes,

@@ -60,8 +60,9 @@ fn first_large_key(rows: &Rows, bound: u32) -> Option<u64>
     ensures { MatchOption result (first_row (is_large bound) rows.now ≡ None) (IsFirstLarge bound rows.now) }
 {
     for place in 0..rows.len() {
-        if let Some(key) = large_key(&rows.get(place, 0), bound) {
-            return Some(key);
+        match large_key(&rows.get(place, 0), bound) {
+            Some(key) => return Some(key),
+            None => {}
         }
     }
     None
