@@ -10,7 +10,7 @@ use Rattle.dict_schema.specs.Parts.{column_names}
 use Rattle.dict_schema.specs.Table.{IsBadDefault, IsBadParent, NamesWithin, attributes, counts, keys, ranges, settings, sources, table}
 use Rattle.ddl_writing.specs.Canonical.{DefaultsFit}
 
-clear_behind : (xs ys : List Rule) → AreClear (xs ++ ys) → AreClear ys
+pub clear_behind : (xs ys : List Rule) → AreClear (xs ++ ys) → AreClear ys
 clear_behind [] ys clear = clear
 clear_behind (x ∷ xs) ys clear = clear_behind xs ys clear.1
 

@@ -1,5 +1,5 @@
 -- Values that fit their columns: the defaults of a shape, the rows of versions, and what is found among them.
-use Rattle.std.proofs.Common.{◌≡◌, ◌<◌, ◌≤◌, ◌+◌, ◌∷◌, ◌++◌, ◌∙◌, [], Bool, true, false, ℕ, zero, suc, List, Option, Some, None, Result, Ok, Err, length, refl, sym, ap, subst, inl, inr, ◌⊎◌, arith, if◌then◌else◌}
+use Rattle.std.proofs.Common.{◌≡◌, ◌<◌, ◌≤◌, ◌+◌, ◌∷◌, ◌++◌, ◌∙◌, [], Bool, true, false, ℕ, zero, suc, List, Option, Some, None, Result, Ok, Err, get_or, length, refl, sym, ap, subst, inl, inr, ◌⊎◌, arith, if◌then◌else◌}
 use Rattle.std.proofs.lemmas.Bool.{cases_lt}
 use Rattle.std.proofs.lemmas.List.{length-append}
 use Rattle.std.proofs.lemmas.List.FromFn.{length-range_with_len}
@@ -25,7 +25,9 @@ use Rattle.dict_schema.specs.declared.fault.Which.TheVariants as which
 use Rattle.dict_schema.specs.Judging.{AreClear}
 use Rattle.dict_schema.specs.Parts.{is_attribute}
 use Rattle.dict_schema.specs.Shapes.{attribute_columns, columns_at, end_columns, shape_of}
-use Rattle.dict_schema.specs.Table.{table}
+use Rattle.dict_schema.specs.Parts.{column_names}
+use Rattle.dict_schema.specs.Table.{NamesWithin, attributes, counts, keys, ranges, settings, sources, table}
+use Rattle.dictd.proofs.ClearDefaults.{clear_behind}
 use Rattle.row_text.specs.Decoding.{IsTypedRow}
 use Rattle.rows_typed.specs.Fits.{FitsRole, FitsShape, HasFittingDefaults}
 use Rattle.rows_typed.specs.Shapes.{Decode, columns_of}
@@ -52,7 +54,7 @@ all-at P (y ∷ ys) (suc k) x all e = all-at P ys k x all.1 e
 columns-fit : (d : Definition) (role : Role) (places : List ℕ) → ColumnsFit d.columns → HasFittingDefaults (columns_at d role places)
 columns-fit d role [] all = tt
 columns-fit d role (p ∷ ps) all = by_column (slice_get_cases d.columns p).1 (columns-fit d role ps all) where
-  by_column : ((x : Column) × (p < length d.columns) × (slice_get d.columns p ≡ Some x) × _) ⊎ ((length d.columns ≤ p) × (slice_get d.columns p ≡ None)) → HasFittingDefaults (columns_at d role ps) → HasFittingDefaults (columns_at d role (p ∷ ps))
+  by_column : ((x : Column) × (p < length d.columns) × (slice_get d.columns p ≡ Some x) × (get_or d.columns p x ≡ x)) ⊎ ((length d.columns ≤ p) × (slice_get d.columns p ≡ None)) → HasFittingDefaults (columns_at d role ps) → HasFittingDefaults (columns_at d role (p ∷ ps))
   by_column (inl (x, low, here, same)) rest = rw here (all-at (λ (column : Column). FitsColumn column.ty column.default) d.columns p x all here, rest)
   by_column (inr (past, none)) rest = rw none rest
 
@@ -97,7 +99,7 @@ filter-few p (x ∷ xs) = by_test (p x) refl (filter-few p xs) where
 columns-few : (d : Definition) (role : Role) (places : List ℕ) → length (columns_at d role places) ≤ length places
 columns-few d role [] = omega arith
 columns-few d role (p ∷ ps) = by_column (slice_get_cases d.columns p).1 (columns-few d role ps) where
-  by_column : ((x : Column) × (p < length d.columns) × (slice_get d.columns p ≡ Some x) × _) ⊎ ((length d.columns ≤ p) × (slice_get d.columns p ≡ None)) → length (columns_at d role ps) ≤ length ps → length (columns_at d role (p ∷ ps)) ≤ length (p ∷ ps)
+  by_column : ((x : Column) × (p < length d.columns) × (slice_get d.columns p ≡ Some x) × (get_or d.columns p x ≡ x)) ⊎ ((length d.columns ≤ p) × (slice_get d.columns p ≡ None)) → length (columns_at d role ps) ≤ length ps → length (columns_at d role (p ∷ ps)) ≤ length (p ∷ ps)
   by_column (inl (x, low, here, same)) rest = rw here (omega (arith, rest))
   by_column (inr (past, none)) rest = rw none (omega (arith, rest))
 
@@ -122,6 +124,16 @@ few-shape d clear =
     let e = length-append (columns_at d Key d.keys) (end_columns d d.range ++ attribute_columns d) in
     let g = length-append (end_columns d d.range) (attribute_columns d) in
     omega (arith, a, b, c, f, r, k, n, e, g)
+
+pub few-output : (d : Definition) → AreClear (table d) → d.max_output ≤ 134217728
+few-output d clear = by_size (cases_lt 134217728 d.max_output) where
+  settled : AreClear (settings d ++ (keys d ++ (ranges d ++ (attributes d ++ sources d))))
+  settled = clear_behind (NamesWithin (column_names d)) (settings d ++ (keys d ++ (ranges d ++ (attributes d ++ sources d))))
+      (clear_behind (counts d) (NamesWithin (column_names d) ++ (settings d ++ (keys d ++ (ranges d ++ (attributes d ++ sources d))))) clear)
+
+  by_size : (134217728 < d.max_output) ⊎ (d.max_output ≤ 134217728) → d.max_output ≤ 134217728
+  by_size (inl many) = absurd (settled.1.0 (fault.Limit which.Output d.max_output) (refl, inr many))
+  by_size (inr few) = few
 
 -- ---- values that can be printed
 
@@ -203,6 +215,14 @@ get-push [] y zero x e = let same : y ≡ x = cc in inr same
 get-push [] y (suc n) x e = cc
 get-push (z ∷ zs) y zero x e = inl e
 get-push (z ∷ zs) y (suc n) x e = get-push zs y n x e
+
+no-entry : {X : Type 0} (n : ℕ) (x : X) → slice_get [] n ≡ Some x → ⊥
+no-entry zero x e = cc
+no-entry (suc n) x e = cc
+
+-- no versions
+pub none-fit : (shape : List ShapeColumn) (versions : List Table) → versions ≡ [] → HaveFittingRows shape versions
+none-fit shape versions none = subst (HaveFittingRows shape) (sym none) (λ n rows e. absurd (no-entry n rows e))
 
 -- the versions after one more, whose rows fit
 fit-push : (shape : List ShapeColumn) (old new : List Table) (rows : Table) → new ≡ old ++ rows ∷ [] → AllByRecursion (FitsShape shape) rows → HaveFittingRows shape old → HaveFittingRows shape new

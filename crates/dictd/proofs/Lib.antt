@@ -6,6 +6,7 @@ pub mod Fitting
 pub mod Lines
 pub mod Loading
 pub mod OneEnd
+pub mod Opening
 pub mod Places
 pub mod Requesting
 pub mod RowKeys

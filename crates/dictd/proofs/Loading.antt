@@ -82,6 +82,11 @@ loaded-end ran old before now between place s all = by_rest s.rest s.parts s.sta
       let c = s.count in
       omega (arith, e, c, all))
 
+pub length-set : {X : Type 0} (xs : List X) (place : ℕ) (x : X) → length (slice_set xs place x) ≡ length xs
+length-set [] place x = refl
+length-set (y ∷ ys) zero x = refl
+length-set (y ∷ ys) (suc place) x = ap suc (length-set ys place x)
+
 -- ---- the program's dictionaries
 
 map-set : (held : List Dictionary) (place : ℕ) (one : Dictionary) → map holding (slice_set held place one) ≡ slice_set (map holding held) place (holding one)

@@ -2,14 +2,10 @@
 use Rattle.std.proofs.Common.{◌≡◌, ◌≢◌, ◌<◌, ◌≤◌, ◌+◌, ℕ, zero, suc, List, [], ◌∷◌, ◌++◌, length, map, get_or, refl, ap, sym, ◌∙◌, subst, arith, Option, Some, None, MatchOption, Bool, true, false, IsTrue, ◌⊎◌, inl, inr}
 use Rattle.std.specs.Prelude.{slice_get, not}
 use Rattle.std.specs.List.{filter, range_with_len}
-use Rattle.std.specs.Cmp.Lexicographic.{pointwise}
-use lib.Dec.{eqb}
 use Rattle.std.proofs.lemmas.Bool.{cases_lt}
-use Rattle.std.proofs.lemmas.Bool.Decides.{Decides-eqb}
 use Rattle.std.proofs.lemmas.List.{length-append, length-map}
 use Rattle.std.proofs.lemmas.List.Elements.{filter-append}
 use Rattle.std.proofs.lemmas.Option.{slice_get_within}
-use Rattle.std.proofs.lemmas.Slice.Eq.{slice_eq-Decides}
 use Rattle.dict_schema.proofs.ShapePlaces.{range-more}
 use Rattle.dict_schema.specs.declared.definition.Column.{Column}
 use Rattle.dict_schema.specs.declared.definition.Definition.{Definition}
@@ -19,14 +15,6 @@ use Rattle.wire_text.specs.declared.request.Asked.{Asked as Lookup}
 use Rattle.wire_text.specs.declared.request.Verb.TheVariants.{Get}
 use Rattle.dictd.specs.Loads.{Holding}
 use Rattle.dictd.specs.Requests.{AreOthers, AreOthersBefore, IsFirstNamed, IsKeyIn, IsOfKey, attributes_before}
-
-pub same-bytes : (a b : List ℕ) (same : Bool) → same ≡ pointwise eqb a b → true ≡ same → a ≡ b
-same-bytes a b true e h = (slice_eq-Decides Decides-eqb a b true e).0 refl
-same-bytes a b false e h = cc
-
-pub other-bytes : (a b : List ℕ) (same : Bool) → same ≡ pointwise eqb a b → false ≡ same → a ≢ b
-other-bytes a b true e h = cc
-other-bytes a b false e h = λ p. let equal = (slice_eq-Decides Decides-eqb a b false e).1 p in cc
 
 -- no dictionary before a place has the name
 abbrev pub AreOthersUpTo : List Holding → List ℕ → ℕ → Type 0

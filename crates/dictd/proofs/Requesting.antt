@@ -1,18 +1,23 @@
 -- What a request wants, and what is said of it.
-use Rattle.std.proofs.Common.{◌≡◌, ◌≢◌, ◌<◌, ◌≤◌, ◌+◌, ℕ, List, [], ◌∷◌, ◌++◌, refl, ap, sym, ◌∙◌, subst, arith, Option, None, Some, Result, Ok, Err, OnOk, ◌⊎◌, inl, inr, codes, length, true}
+use Rattle.std.proofs.Common.{◌≡◌, ◌≢◌, ◌<◌, ◌≤◌, ◌+◌, ℕ, List, [], ◌∷◌, ◌++◌, refl, ap, sym, ◌∙◌, subst, arith, Option, None, Some, Result, Ok, Err, OnOk, MatchOption, ◌⊎◌, inl, inr, codes, get_or, length, true}
 use Rattle.std.proofs.lemmas.Bool.{cases_lt}
+use Rattle.std.proofs.lemmas.Option.{slice_get-get_or}
+use Rattle.dict_schema.specs.declared.definition.ShapeColumn.{ShapeColumn}
+use Rattle.version_slot.specs.Views.{entry}
 use Rattle.std.specs.Prelude.{slice_get, slice_set}
 use Rattle.child_io.specs.declared.child.Script.{Script}
 use Rattle.dict_schema.specs.declared.definition.Definition.{Definition}
+use Rattle.dict_schema.specs.Shapes.{shape_of}
 use Rattle.dict_value.specs.declared.fault.NoMemory.{NoMemory as OutOfMemory}
 use Rattle.wire_text.specs.Requests.{IsRequest}
 use Rattle.wire_text.specs.declared.request.Asked.{Asked as Lookup}
 use Rattle.wire_text.specs.declared.request.Request.{Request}
 use Rattle.wire_text.specs.declared.request.Request.TheVariants.{Asked, Reload, Show}
 use Rattle.dictd.specs.declared.ending.LoadEnd.{LoadEnd}
-use Rattle.dictd.specs.Asking.{LooksIn, wanted_of}
+use Rattle.dictd.specs.Asking.{LooksAt, LooksIn, wanted_of}
 use Rattle.dictd.specs.Loads.{Holding, Loads, Ran}
-use Rattle.dictd.specs.Requests.{AreOthers, IsAttributeAt, IsColumnAt, IsFirstNamed, IsOfKey, IsWanted, Wanted, attributes_before, load_reply, refusal}
+use Rattle.dictd.specs.Requests.{AreOthers, IsAttributeAt, IsColumnAt, IsFirstNamed, IsOfKey, IsValue, IsWanted, Loaded, NotLoaded, Wanted, attributes_before, load_reply, refusal, value_reply}
+use Rattle.dictd.specs.Tables.{Table, value_of_key}
 use Rattle.dictd.specs.Sessions.{State, Answers, AnswersRequest, LooksUp, Read, Reloads, Says, SaysRequest, Unread, NoMemory}
 
 some-once : {X : Type 0} (x y : X) → Some x ≡ Some y → x ≡ y
@@ -81,3 +86,43 @@ says-load ran old new name reply place one loaded end (Err _) named loads held e
 pub on-ok : {E : Type 0} (P Q : Type 0) (said : Result (Unit {0}) E) → (P → Q) → OnOk said P → OnOk said Q
 on-ok P Q (Ok _) f p = f p
 on-ok P Q (Err _) f p = tt
+
+-- what is said where there is none
+pub by-none : {X : Type 0} (found : Option X) (P : Type 0) (Q : X → Type 0) → ((x : X) → found ≡ Some x → ⊥) → MatchOption found P Q → P
+by-none None P Q none m = m
+by-none (Some x) P Q none m = absurd (none x refl)
+
+-- the attribute isn't there
+pub no-attribute : (one : Holding) (attribute : List ℕ) (key : ℕ) (reply : List ℕ) → ((place : ℕ) → IsAttributeAt one.definition attribute place → ⊥) → reply ≡ refusal (codes "1") → LooksIn one attribute key reply
+no-attribute one attribute key reply none e = inr ((λ place column is. none place is.named), e)
+
+-- it is there
+pub looks-in : (one : Holding) (attribute : List ℕ) (key : ℕ) (reply : List ℕ) (place : ℕ) → IsAttributeAt one.definition attribute place → LooksAt one place key reply → LooksIn one attribute key reply
+looks-in one attribute key reply place at (inl (column, here, value)) = inl (place, column, record { named = at; here = here }, value)
+looks-in one attribute key reply place at (inr (none, e)) = inr (
+  (λ other column is.
+      let same = attribute-once one.definition attribute place other at is.named in
+      let f : Some column ≡ None = sym is.here ∙ ap (slice_get (shape_of one.definition)) (sym same) ∙ none in
+      cc),
+  e,
+)
+
+-- the value in what was seen
+pub value-seen : (one : Holding) (place : ℕ) (column : ShapeColumn) (key number : ℕ) (rows : Table) (version : Option Table) (reply : List ℕ) → number ≡ length one.versions → version ≡ entry one.versions (length one.versions) → version ≡ Some rows
+    → reply ≡ value_reply number column.ty (value_of_key rows place column.default key) → IsValue (wanted_of one place column key) reply
+value-seen one place column key number rows version reply n v some e =
+    Loaded rows (sym v ∙ some) (e ∙ ap (λ z. value_reply z column.ty (value_of_key rows place column.default key)) n)
+
+no-newest : (versions : List Table) → entry versions (length versions) ≡ None → versions ≡ []
+no-newest [] e = refl
+no-newest (x ∷ xs) e = absurd (some-none (get_or (x ∷ xs) (length xs) x) (sym (slice_get-get_or (x ∷ xs) (length xs) x (omega arith)) ∙ e)) where
+  some-none : (y : Table) → Some y ≡ None → ⊥
+  some-none y f = cc
+
+-- nothing was seen
+pub nothing-seen : (one : Holding) (place : ℕ) (column : ShapeColumn) (key : ℕ) (version : Option Table) (reply : List ℕ) → version ≡ entry one.versions (length one.versions) → version ≡ None → reply ≡ refusal (codes "5") → IsValue (wanted_of one place column key) reply
+nothing-seen one place column key version reply v none e = NotLoaded (no-newest one.versions (sym v ∙ none)) e
+
+-- the first dictionary of a name, by what stands at its place
+pub named-here : (held : List Holding) (name : List ℕ) (place : ℕ) (one other : Holding) → IsFirstNamed held name place one → slice_get held place ≡ Some other → IsFirstNamed held name place other
+named-here held name place one other named here = subst (IsFirstNamed held name place) (some-once one other (sym named.here ∙ here)) named

@@ -1,5 +1,5 @@
 -- Rows looked up by their first value, cell by cell.
-use Rattle.std.proofs.Common.{◌≡◌, ◌<◌, ◌≤◌, ◌+◌, ◌∷◌, ◌∙◌, [], Bool, true, false, ℕ, zero, suc, List, Option, Some, None, length, drop, refl, ap, sym, arith, ◌⊎◌, inl, inr}
+use Rattle.std.proofs.Common.{◌≡◌, ◌<◌, ◌≤◌, ◌+◌, ◌∷◌, ◌∙◌, [], Bool, true, false, ℕ, zero, suc, List, Option, Some, None, get_or, length, drop, refl, ap, sym, arith, ◌⊎◌, inl, inr}
 use Rattle.std.specs.Prelude.{slice_get}
 use Rattle.dict_value.specs.declared.value.Value.{Value}
 use Rattle.std.proofs.lemmas.Option.{slice_get_cases}
@@ -37,7 +37,7 @@ find-none test (row ∷ rows) (suc place) past = find-none test rows place (omeg
 pub large-here : (bound key : ℕ) (rows : Table) (place : ℕ) → place < length rows → cell_at rows place 0 ≡ Some (U key) → is_large bound (Some (U key)) ≡ true
     → first_row (is_large bound) (drop place rows) ≡ first_row (is_large bound) rows → IsFirstLarge bound rows key
 large-here bound key rows place below cell large so_far = by_row (slice_get_cases rows place).1 where
-  by_row : ((row : List Value) × (place < length rows) × (slice_get rows place ≡ Some row) × _) ⊎ ((length rows ≤ place) × (slice_get rows place ≡ None)) → IsFirstLarge bound rows key
+  by_row : ((row : List Value) × (place < length rows) × (slice_get rows place ≡ Some row) × (get_or rows place row ≡ row)) ⊎ ((length rows ≤ place) × (slice_get rows place ≡ None)) → IsFirstLarge bound rows key
   by_row (inl (row, low, here, same)) = (
     row,
     sym so_far ∙ sym (find-here (is_large bound) rows place below (ap (is_large bound) cell ∙ large)) ∙ here,

@@ -33,6 +33,7 @@ pub struct Dictionary {
     ghost shape_is: { shape ≡ shape_of definition },
     ghost columns: { length definition.columns ≤ 64 },
     ghost keys: { length definition.keys ≤ 16 },
+    ghost output: { definition.max_output ≤ 134217728 },
     ghost few: { length shape ≤ 4294967295 },
     ghost defaults: { DefaultsFit definition },
     ghost idle: { IsIdle versions core },

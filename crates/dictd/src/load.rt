@@ -141,6 +141,7 @@ fn read_child<S: Spawner>(
     core: &mut DictCore,
 ) -> Result<Rows, TableFault>
     requires reading { core.old.phase ≡ Reading }
+    requires output { definition.now.max_output ≤ 134217728 }
     requires shape { shape.now ≡ shape_of definition.now }
     requires columns { length shape.now ≤ 4294967295 }
     requires defaults { HasFittingDefaults shape.now }

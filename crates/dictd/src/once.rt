@@ -1,5 +1,5 @@
 // The run of `once`.
-ghost use Rattle.std.specs.Prelude.{◌≡◌, ◌≢◌, ◌≤◌, false, map, string_bytes, IfOk, IsErrOf, All, length};
+ghost use Rattle.std.specs.Prelude.{◌≡◌, ◌≢◌, ◌≤◌, ◌++◌, ◌∷◌, [], false, map, string_bytes, IfOk, IsErrOf, OnOk, All, length};
 ghost use Rattle.dict_io.specs.Outside.{HasCause, Rose, RoseWhere};
 ghost use Rattle.dict_schema.specs.Sound.{IsSoundItem};
 ghost use Rattle.dictd.specs.Definitions.{AreServed, Defines, IsRefusedText};
@@ -72,6 +72,22 @@ fn read_definitions<F: Shelf>(
     }
 }
 
+/// Appends the dictionary of an item, where it is one, before its first load.
+fn add_item(
+    alloc: Global,
+    dictionaries: &mut ListOf<Dictionary>,
+    item: Item,
+    folder: &[u8],
+) -> Result<(), NoMemory>
+    requires { IsSoundItem item }
+    ensures { OnOk result (map holding dictionaries.new ≡ map holding dictionaries.old ++ opening folder.now (item ∷ [])) }
+{
+    match Dictionary::new(alloc, item, folder)? {
+        Some(dictionary) => dictionaries.push(dictionary),
+        None => Ok(()),
+    }
+}
+
 /// The dictionaries of these items, none of which was loaded yet.
 fn dictionaries_of(
     alloc: Global,
@@ -81,16 +97,12 @@ fn dictionaries_of(
     requires { All IsSoundItem items }
     ensures { IfOk result (λ all. map holding all.items ≡ opening folder.now items) }
 {
-    let mut dictionaries = Vec::new(alloc);
+    let mut dictionaries = ListOf::new(alloc);
     let mut items = items;
     while let Some(item) = items.pop_front() {
-        if let Some(dictionary) = Dictionary::new(alloc, item, folder)? {
-            if dictionaries.push(dictionary).is_err() {
-                return Err(NoMemory);
-            }
-        }
+        add_item(alloc, &mut dictionaries, item, folder)?;
     }
-    Ok(dictionaries)
+    Ok(dictionaries.into_vec())
 }
 
 /// Loads each dictionary once, reads the input, and answers it.

@@ -11,6 +11,13 @@ use dict_schema::{Definition, column_at, is_attribute};
 use dict_value::{Field, Fields, read_digits};
 use wire_text::{Asked, Verb};
 
+/// Whether a dictionary has this name.
+fn is_named(dictionary: &Dictionary, name: &[u8]) -> bool
+    ensures { IsTrue result ↔ (dictionary.now.definition.name ≡ name.now) }
+{
+    dictionary.definition.name.as_slice() == name
+}
+
 /// Where the first dictionary of a name stands.
 pub fn place_of(dictionaries: &[Dictionary], name: &[u8]) -> Option<usize>
     ensures place { MatchOption result (AreOthers (map holding dictionaries.now) name.now)
@@ -18,7 +25,7 @@ pub fn place_of(dictionaries: &[Dictionary], name: &[u8]) -> Option<usize>
     ensures within { IfSome result (λ place. place < length dictionaries.now) }
 {
     for place in 0..dictionaries.len() {
-        if dictionaries[place].definition.name.as_slice() == name {
+        if is_named(&dictionaries[place], name) {
             return Some(place);
         }
     }

@@ -1,7 +1,8 @@
 // One session: a reply for each line of an input, in order.
-ghost use Rattle.std.specs.Prelude.{◌≡◌, ◌<◌, ◌≤◌, [], ℕ, IsErr, OnOk, length, map};
+ghost use Rattle.std.specs.Prelude.{◌≡◌, ◌≤◌, None, Some, IsErr, MatchOption, OnOk, length, map, slice_get};
 ghost use Rattle.dict_io.specs.Outside.{HasCause};
-ghost use Rattle.dictd.specs.Asking.{LooksIn};
+ghost use Rattle.dictd.specs.Asking.{LooksAt, LooksIn};
+ghost use Rattle.dictd.specs.Requests.{IsOfKey};
 ghost use Rattle.dictd.specs.Sessions.{LooksUp, Says, SaysRequest, ServesInput, ServesLines, Shows, WritesReply, holding, state_of};
 
 use crate::dictionary::Dictionary;
@@ -12,10 +13,41 @@ use crate::reply::{
 use crate::request::{attribute_place, key_of, place_of};
 use child_io::Spawner;
 use dict_io::{Failed, Sink, write_all};
+use dict_schema::{Shape, ShapeColumn};
 use dict_value::{NoMemory, split_at_byte};
 use std::alloc::Global;
 use version_slot::Viewer;
 use wire_text::{Asked, Request, RequestFault, read_request};
+
+/// The column of a row at a place, where there is one.
+fn column_of(shape: &Shape, place: usize) -> Option<&ShapeColumn>
+    ensures { MatchOption result (slice_get shape.now place ≡ None) (λ column. slice_get shape.now place ≡ Some column.now) }
+{
+    shape.as_slice().get(place)
+}
+
+/// The reply to a lookup in what was seen of a dictionary.
+fn look_at(
+    alloc: Global,
+    dictionary: &mut Dictionary,
+    place: usize,
+    key: u64,
+    buffers: &mut Buffers,
+) -> Result<(), NoMemory>
+    ensures same { holding dictionary.new ≡ holding dictionary.old }
+    ensures reply { OnOk result (LooksAt (holding dictionary.old) place key buffers.new.reply) }
+{
+    let Ok(seen) = dictionary.versions.enter() else {
+        return Err(NoMemory);
+    };
+    match column_of(&dictionary.shape, place) {
+        Some(column) => match seen.version() {
+            Some(rows) => value_reply(alloc, buffers, seen.number(), rows, key, place, column),
+            None => plain_reply(&mut buffers.reply, b"ERR\t5\n"),
+        },
+        None => plain_reply(&mut buffers.reply, b"ERR\t1\n"),
+    }
+}
 
 /// The reply to a lookup in a dictionary.
 fn look_in(
@@ -28,18 +60,30 @@ fn look_in(
     ensures same { holding dictionary.new ≡ holding dictionary.old }
     ensures reply { OnOk result (LooksIn (holding dictionary.old) attribute.now key buffers.new.reply) }
 {
-    let Some(place) = attribute_place(&dictionary.definition, attribute) else {
-        return plain_reply(&mut buffers.reply, b"ERR\t1\n");
-    };
-    let Ok(seen) = dictionary.versions.enter() else {
-        return Err(NoMemory);
-    };
-    let Some(column) = dictionary.shape.as_slice().get(place) else {
-        return plain_reply(&mut buffers.reply, b"ERR\t1\n");
-    };
-    match seen.version() {
-        Some(rows) => value_reply(alloc, buffers, seen.number(), rows, key, place, column),
-        None => plain_reply(&mut buffers.reply, b"ERR\t5\n"),
+    match attribute_place(&dictionary.definition, attribute) {
+        Some(place) => look_at(alloc, dictionary, place, key, buffers),
+        None => plain_reply(&mut buffers.reply, b"ERR\t1\n"),
+    }
+}
+
+/// The reply to a lookup with this key.
+fn look_for(
+    alloc: Global,
+    dictionaries: &mut [Dictionary],
+    asked: &Asked,
+    key: u64,
+    buffers: &mut Buffers,
+) -> Result<(), NoMemory>
+    requires { IsOfKey asked.now key }
+    ensures same { map holding dictionaries.new ≡ map holding dictionaries.old }
+    ensures reply { OnOk result (LooksUp (map holding dictionaries.old) asked.now buffers.new.reply) }
+{
+    match place_of(dictionaries, asked.name.as_slice()) {
+        Some(place) => {
+            let attribute = asked.attribute.as_slice();
+            look_in(alloc, &mut dictionaries[place], attribute, key, buffers)
+        }
+        None => plain_reply(&mut buffers.reply, b"ERR\t1\n"),
     }
 }
 
@@ -53,17 +97,8 @@ fn look_up(
     ensures same { map holding dictionaries.new ≡ map holding dictionaries.old }
     ensures reply { OnOk result (LooksUp (map holding dictionaries.old) asked.now buffers.new.reply) }
 {
-    let Some(key) = key_of(asked) else {
-        return plain_reply(&mut buffers.reply, b"ERR\t1\n");
-    };
-    match place_of(dictionaries, asked.name.as_slice()) {
-        Some(place) => look_in(
-            alloc,
-            &mut dictionaries[place],
-            asked.attribute.as_slice(),
-            key,
-            buffers,
-        ),
+    match key_of(asked) {
+        Some(key) => look_for(alloc, dictionaries, asked, key, buffers),
         None => plain_reply(&mut buffers.reply, b"ERR\t1\n"),
     }
 }

@@ -7,7 +7,7 @@ use Rattle.dictd.proofs.once.dictionaries_of.Given as goal
 
 abbrev pub invariant-loop-item : goal.invariant-loop-item
 invariant-loop-item l = record {
-  made : map holding l.dictionaries.items ++ opening l.folder l.items ≡ opening l.folder l.initial.items;
+  made : map holding l.dictionaries ++ opening l.folder l.items ≡ opening l.folder l.initial.items;
   sound : All IsSoundItem l.items;
 }
 

@@ -14,4 +14,4 @@ loop-place-preserved c =
 
 pub returns : goal.returns
 returns c =
-    sym (find-none (is_large c.args.bound) c.args.rows.now c.loop-place.place (omega (arith, c.loop-place-test.false, c.len-place-end.ensures))) ∙ c.loop-place.invariant
+    sym c.loop-place.invariant ∙ find-none (is_large c.args.bound) c.args.rows.now c.loop-place.place (omega (arith, c.loop-place-test.false, c.len-place-end.ensures))
