@@ -82,7 +82,8 @@ fn add_item(
     requires { IsSoundItem item }
     ensures { OnOk result (map holding dictionaries.new ≡ map holding dictionaries.old ++ opening folder.now (item ∷ [])) }
 {
-    match Dictionary::new(alloc, item, folder)? {
+    let made = Dictionary::new(alloc, item, folder)?;
+    match made {
         Some(dictionary) => dictionaries.push(dictionary),
         None => Ok(()),
     }

@@ -1,7 +1,6 @@
-use Rattle.std.proofs.Common.{◌≡◌, List, ℕ, length, refl, map, subst, sym}
-use Rattle.std.proofs.lemmas.Option.{slice_get_read}
+use Rattle.std.proofs.Common.{List, ℕ, get_or, refl, map, subst}
+use Rattle.std.proofs.lemmas.Option.{slice_get-get_or}
 use Rattle.dictd.specs.Asking.{LooksIn}
-use Rattle.dictd.specs.Loads.{Holding}
 use Rattle.dictd.specs.Requests.{AreOthers, IsFirstNamed}
 use Rattle.dictd.specs.Sessions.{holding}
 use Rattle.dictd.proofs.Loading.{held-here, held-same}
@@ -11,14 +10,14 @@ use Rattle.dictd.proofs.session.look_for.Goals as goal
 pub returns-in-Some-clause-same : goal.returns-in-Some-clause-same
 returns-in-Some-clause-same c =
     let held = c.args.dictionaries.now in
-    let one = c.index-dictionaries-place.result in
-    held-same held _ c.in-Some.place one c.look_in.new.dictionary refl (slice_get_read held (length held) c.in-Some.place one refl c.in-Some.ensures.within c.index-dictionaries-place.is) c.look_in.ensures.same
+    let one = get_or held c.in-Some.place c.index-dictionaries-place.result in
+    held-same held _ c.in-Some.place one c.look_in.new.dictionary refl (slice_get-get_or held c.in-Some.place c.index-dictionaries-place.result c.in-Some.ensures.within) c.look_in.ensures.same
 
 pub returns-in-Some-clause-reply : goal.returns-in-Some-clause-reply
 returns-in-Some-clause-reply c =
     let held = c.args.dictionaries.now in
-    let one = c.index-dictionaries-place.result in
-    let here = held-here held c.in-Some.place one (slice_get_read held (length held) c.in-Some.place one refl c.in-Some.ensures.within c.index-dictionaries-place.is) in
+    let one = get_or held c.in-Some.place c.index-dictionaries-place.result in
+    let here = held-here held c.in-Some.place one (slice_get-get_or held c.in-Some.place c.index-dictionaries-place.result c.in-Some.ensures.within) in
     let found = c.in-Some.ensures.place in
     let N : List ℕ → Type 0 = λ z. IsFirstNamed (map holding held) z c.in-Some.place (holding one) in
     let L : List ℕ → Type 0 = λ z. LooksIn (holding one) z c.args.key c.look_in.new.buffers.reply in
