@@ -74,7 +74,8 @@ fn of_syntax(fault: SyntaxFault) -> DdlFault
     }
 }
 
-fn place_of(fault: &DdlFault) -> u32
+/// The byte that a fault is told at, from 0.
+pub fn place_of(fault: &DdlFault) -> u32
     ensures { result ≡ place_of_fault fault.now }
 {
     match fault {

@@ -29,7 +29,7 @@ pub use ddl_writing::write_definition;
 use dict_schema::Item;
 use dict_value::ListOf;
 use fault::FileFault;
-pub use fault::{DdlFault, DdlRefusal, fault_words};
+pub use fault::{DdlFault, DdlRefusal, fault_words, place_of};
 pub use laws::{canonical_text_is_read, numbers_fit, texts_of_read_items_have_all};
 use std::alloc::Global;
 

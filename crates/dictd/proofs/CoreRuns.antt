@@ -1,7 +1,6 @@
 -- A core stepped by the events of a load.
 use Rattle.std.proofs.Common.{◌≡◌, ◌<◌, ◌+◌, ℕ, List, [], ◌∷◌, ◌++◌, length, map, refl, ap, sym, ◌∙◌, subst, arith, Result, Ok, Err, Option, Bool, true, false, nat_lt}
 use Rattle.std.specs.List.{concat}
-use Rattle.dict_value.specs.declared.fault.Exit.{Exit}
 use Rattle.child_io.specs.declared.child.Script.{Script}
 use Rattle.child_io.specs.declared.pieces.PieceEnd.{PieceEnd}
 use Rattle.load_core.specs.declared.dictionary.DictCore.{DictCore}
@@ -16,8 +15,9 @@ use Rattle.load_core.specs.declared.flat.TableFault.{TableFault}
 use Rattle.load_core.specs.declared.flat.TableFault.TheVariants.{Refused, NoMemory}
 use Rattle.dictd.specs.declared.ending.LoadEnd.{LoadEnd}
 use Rattle.dictd.specs.declared.ending.LoadEnd.TheVariants.{Published, Failed, NoMemory as EndNoMemory}
-use Rattle.dictd.specs.Loads.{core_after, end_events, EndsLoad, State, Runs, RunsChild}
-use Rattle.dictd.specs.ThinRows.{Table}
+use Rattle.dict_schema.specs.declared.definition.Definition.{Definition}
+use Rattle.dictd.specs.Loads.{core_after, end_events, EndsLoad, HasOrigin, Holding, Ran, Runs, RunsChild}
+use Rattle.dictd.specs.Tables.{Table}
 use Rattle.dictd.specs.Judged.{ReadsChild, IsRead, FinishesAs}
 
 pub core_after-append : (core : DictCore) (first second : List DictEvent) → core_after core (first ++ second) ≡ core_after (core_after core first) second
@@ -47,31 +47,43 @@ pieces-keep core [] reading = refl
 pieces-keep core (piece ∷ pieces) reading = ap (λ c. core_after c (map (λ p. Piece (length p)) pieces)) (piece-keeps core (length piece) reading) ∙ pieces-keep core pieces reading
 
 -- what was read and how the load ended by it
-pub ends-load : (ran : List (List ℕ) → List ℕ → Exit → Type 0) (words : List (List ℕ)) (output : List ℕ) (ending : PieceEnd) (read : Result (Table) TableFault) (end : LoadEnd) (old new : List Table) → IsRead ran words output ending read → FinishesAs old read end new → EndsLoad output ending end old new
-ends-load ran words output ending (Ok rows) (Published number) old new given finished = (given.0, (rows, given.2, finished.0, finished.1))
-ends-load ran words output ending (Ok rows) (Failed cause) old new given finished = absurd finished
-ends-load ran words output ending (Ok rows) EndNoMemory old new given finished = finished
-ends-load ran words output ending (Err (Refused cause)) end old new given finished =
-    let P : LoadEnd → Type 0 = λ e. EndsLoad output ending e old new in
+ends-load : (ran : Ran) (d : Definition) (words : List (List ℕ)) (output : List ℕ) (ending : PieceEnd) (read : Result Table TableFault) (end : LoadEnd) (old new : List Table) → IsRead ran d words output ending read → FinishesAs old read end new → EndsLoad d output ending end old new
+ends-load ran d words output ending (Ok rows) (Published number) old new given finished = (given.0, (rows, given.2, finished.0, finished.1))
+ends-load ran d words output ending (Ok rows) (Failed cause) old new given finished = absurd finished
+ends-load ran d words output ending (Ok rows) EndNoMemory old new given finished = finished
+ends-load ran d words output ending (Err (Refused cause)) end old new given finished =
+    let P : LoadEnd → Type 0 = λ e. EndsLoad d output ending e old new in
     subst P (sym finished.0) (given, finished.1)
-ends-load ran words output ending (Err NoMemory) end old new given finished =
-    let P : LoadEnd → Type 0 = λ e. EndsLoad output ending e old new in
+ends-load ran d words output ending (Err NoMemory) end old new given finished =
+    let P : LoadEnd → Type 0 = λ e. EndsLoad d output ending e old new in
     subst P (sym finished.0) finished.1
 
-pub runs : (run : PieceEnd → List (List ℕ) → Type 0) (ran : List (List ℕ) → List ℕ → Exit → Type 0) (words : List (List ℕ)) (old new : State) (read : Result (Table) TableFault) (end : LoadEnd) → (stepped old.core Start).core.phase ≡ Reading → ReadsChild old.scripts new.scripts run ran words read → FinishesAs old.versions read end new.versions → new.core ≡ core_after (stepped old.core Start).core (end_events end) → Runs old end new
-runs run ran words old new read end reading r finished core = record {
+-- where the rows of a load come from
+has-origin : (ran : Ran) (d : Definition) (words : List (List ℕ)) (output : List ℕ) (ending : PieceEnd) (read : Result Table TableFault) (end : LoadEnd) (old new : List Table) → IsRead ran d words output ending read → FinishesAs old read end new → HasOrigin ran words output end
+has-origin ran d words output ending (Ok rows) (Published number) old new given finished = given.1
+has-origin ran d words output ending (Ok rows) (Failed cause) old new given finished = tt
+has-origin ran d words output ending (Ok rows) EndNoMemory old new given finished = tt
+has-origin ran d words output ending (Err (Refused cause)) end old new given finished = subst (HasOrigin ran words output) (sym finished.0) tt
+has-origin ran d words output ending (Err NoMemory) end old new given finished = subst (HasOrigin ran words output) (sym finished.0) tt
+
+pub runs : (run : PieceEnd → List (List ℕ) → Type 0) (ran : Ran) (old new : Holding) (before after : Option (List Script)) (read : Result Table TableFault) (end : LoadEnd) → (stepped old.core Start).core.phase ≡ Reading → ReadsChild before after run ran old.definition old.words read → FinishesAs old.versions read end new.versions
+    → new.core ≡ core_after (stepped old.core Start).core (end_events end) → new.definition ≡ old.definition → new.words ≡ old.words → Runs ran old before end new after
+runs run ran old new before after read end reading r finished core definition words = record {
   pieces = r.pieces;
   ending = r.ending;
   child = r.child;
-  list = ends-load ran words (concat r.pieces) r.ending read end old.versions new.versions r.given finished;
+  list = ends-load ran old.definition old.words (concat r.pieces) r.ending read end old.versions new.versions r.given finished;
+  origin = has-origin ran old.definition old.words (concat r.pieces) r.ending read end old.versions new.versions r.given finished;
   core = core ∙ ap (λ c. core_after c (end_events end)) (sym (pieces-keep (stepped old.core Start).core r.pieces reading)) ∙ sym (core_after-append (stepped old.core Start).core (map (λ piece. Piece (length piece)) r.pieces) (end_events end));
+  definition = definition;
+  words = words;
 }
 
 -- the load of a child that was run so
-pub runs-child : (old new : Option (List Script)) (run : PieceEnd → List (List ℕ) → Type 0) (ran : List (List ℕ) → List ℕ → Exit → Type 0) (words : List (List ℕ)) (read : Result (Table) TableFault) (end : LoadEnd) (before after : List Table) → ReadsChild old new run ran words read → FinishesAs before read end after → RunsChild run end before after
-runs-child old new run ran words read end before after r finished = record {
+pub runs-child : (old new : Option (List Script)) (run : PieceEnd → List (List ℕ) → Type 0) (ran : Ran) (d : Definition) (words : List (List ℕ)) (read : Result Table TableFault) (end : LoadEnd) (before after : List Table) → ReadsChild old new run ran d words read → FinishesAs before read end after → RunsChild run d end before after
+runs-child old new run ran d words read end before after r finished = record {
   pieces = r.pieces;
   ending = r.ending;
   asked = r.asked;
-  list = ends-load ran words (concat r.pieces) r.ending read end before after r.given finished;
+  list = ends-load ran d words (concat r.pieces) r.ending read end before after r.given finished;
 }

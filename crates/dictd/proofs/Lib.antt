@@ -1,11 +1,15 @@
+pub mod ClearDefaults
 pub mod CommandWords
 pub mod CoreRuns
-pub mod Definitions
-pub mod Doubling
-pub mod Fields
-pub mod FileTexts
+pub mod FileReads
+pub mod Fitting
 pub mod Lines
+pub mod Loading
 pub mod OneEnd
+pub mod Opening
+pub mod Places
 pub mod Requesting
+pub mod RowKeys
 pub mod Runs
-mod RowKeys
+pub mod TableMade
+pub mod Telling

@@ -1,11 +1,12 @@
-pub mod Asked
+pub mod Asking
 pub mod CommandLine
+pub mod Definitions
 pub mod Inputs
 pub mod Judged
 pub mod Loads
 pub mod OneRun
+pub mod Printing
 pub mod Requests
 pub mod Sessions
-pub mod ThinRows
-pub mod ThinText
 pub mod Statuses
+pub mod Tables

@@ -1,5 +1,5 @@
 // The whole input, read before the first reply.
-ghost use Rattle.std.specs.Prelude.{◌≡◌, IsOk, MatchResult, false};
+ghost use Rattle.std.specs.Prelude.{◌≡◌, ◌≤◌, IfOk, false, length};
 ghost use Rattle.dict_io.specs.Outside.{HasCause};
 ghost use Rattle.dictd.specs.Inputs.{ReadsInput, ReadFails};
 
@@ -32,6 +32,7 @@ pub struct Input {
 pub fn read_input<I: Source>(alloc: Global, input: &mut I) -> Result<Input, NoMemory>
     requires { I.ended input.old ≡ false }
     ensures read { ReadsInput (I.left input.old) (I.left input.new) result }
+    ensures short { IfOk result (λ read. length read.text ≤ 65536) }
     ensures cause { HasCause (I.read_faults input.old) (I.read_faults input.new) (ReadFails result) }
 {
     let mut buf = [0; MOST_INPUT];

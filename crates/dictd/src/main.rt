@@ -1,22 +1,26 @@
 //! dictd: a lookup server for dictionaries whose rows come from programs.
 //!
-//! Today it answers the lines of one input from one dictionary, by `dictd once DEFS SEED`. It promises
-//! that what it writes, how often it starts a child, and the status that it ends with are the stated
-//! function of the words, the definitions file, the children's scripts and the input, where these are
-//! told, and that each status comes only where its cause stands. It takes no Wait and starts no thread.
+//! Today it answers the lines of one input from the dictionaries of a definitions file, by `dictd once
+//! DEFS SEED`. It promises that what it writes, how often it starts a child, and the status that it ends
+//! with are the stated function of the words, the definitions file, the children's scripts and the
+//! input, where these are told, and that each status comes only where its cause stands. It takes no Wait
+//! and starts no thread.
 #![tactic(auto)]
 
+mod definitions;
+mod dictionary;
 mod ending;
 mod input;
 mod laws;
 mod load;
 mod once;
 mod reply;
+mod request;
 mod session;
 mod status;
+mod table;
 #[cfg(test)]
 mod tests;
-mod thin;
 mod words;
 
 use crate::status::{Status, tell};

@@ -1,26 +1,26 @@
 // The run of `once`.
-ghost use Rattle.std.specs.Prelude.{◌≡◌, ◌≢◌, false, ◌∷◌, [], ℕ, List, map, string_bytes, IsErr, IsErrOf, codes};
+ghost use Rattle.std.specs.Prelude.{◌≡◌, ◌≢◌, ◌≤◌, ◌++◌, ◌∷◌, [], false, map, string_bytes, IfOk, IsErrOf, OnOk, All, length};
 ghost use Rattle.dict_io.specs.Outside.{HasCause, Rose, RoseWhere};
-ghost use Rattle.child_io.specs.Words.{source_words};
-ghost use Rattle.dictd.specs.ThinRows.{thin_shape};
-ghost use Rattle.dictd.specs.Asked.{IsRequestsOf};
-ghost use Rattle.dictd.specs.declared.thin.ThinDefinition.{ThinDefinition};
+ghost use Rattle.dict_schema.specs.Sound.{IsSoundItem};
+ghost use Rattle.dictd.specs.Definitions.{AreServed, Defines, IsRefusedText};
+ghost use Rattle.dictd.specs.OneRun.{OnceRun, ReadsDefinitions, ReadsItems, ServesRun, opening, status_after};
+ghost use Rattle.dictd.specs.Sessions.{holding};
 ghost use Rattle.dictd.specs.Statuses.{Tells, status_text};
-ghost use Rattle.dictd.specs.OneRun.{OnceRun, status_after, ReadsDefinition, ServesRun};
 
+use crate::definitions::are_served;
+use crate::dictionary::Dictionary;
 use crate::input::{InputEnd, read_input};
-use crate::load::{ChildWords, Dictionary, row_shape};
-use crate::session::{Requests, serve_input};
+use crate::load::load_each;
+use crate::reply::Buffers;
+use crate::session::serve_input;
 use crate::status::{Status, tell};
-use crate::thin::{ThinDefinition, ThinFault, read_thin};
 use crate::words::once_file;
-use child_io::{Spawner, folder_of, words_of};
+use child_io::{Spawner, folder_of};
+use ddl_text::{DdlFault, DdlRefusal, parse_definitions};
 use dict_io::{Clock, Failed, Shelf, ShelfFault, Sink, Source};
-use dict_schema::{Shape, SourceOf};
-use dict_value::{Bytes, ListOf};
+use dict_schema::Item;
+use dict_value::{ListOf, NoMemory};
 use std::alloc::Global;
-use std::marker::Brand;
-use version_slot::Publisher;
 
 /// The greatest number of bytes of a definitions file.
 pub const MOST_DEFINITIONS: u32 = 4_194_304;
@@ -28,64 +28,104 @@ pub const MOST_DEFINITIONS: u32 = 4_194_304;
 /// The room that the first reply needs no memory for.
 const REPLY_ROOM: usize = 256;
 
-/// The definition of a file, or the status that it ends the run with.
-fn read_definition<F: Shelf>(
-    alloc: Global,
-    shelf: &mut F,
-    name: &str,
-) -> Result<ThinDefinition, Status>
-    ensures read { ReadsDefinition (F.file shelf.old name.now) result }
-    ensures cause { HasCause (F.shelf_faults shelf.old) (F.shelf_faults shelf.new) (IsErrOf result Status.DefsUnread) }
+/// The items of a text, each of which is served, or the status that it ends the run with.
+fn read_items(alloc: Global, text: &[u8]) -> Result<ListOf<Item>, Status>
+    requires { length text.now ≤ 4194304 }
+    ensures items { ReadsItems text.now result }
+    ensures sound { IfOk result (All IsSoundItem) }
 {
-    let text = match shelf.read_file(name, MOST_DEFINITIONS) {
-        Ok(text) => text,
-        Err(ShelfFault::Failed) => return Err(Status::DefsUnread),
-        Err(ShelfFault::TooLong) => return Err(Status::DefsTooLong),
-        Err(ShelfFault::NoMemory) => return Err(Status::NoMemory),
-    };
-    match read_thin(alloc, text.as_slice()) {
-        Ok(definition) => Ok(definition),
-        Err(ThinFault::Unsupported) => Err(Status::DefsRefused),
-        Err(ThinFault::NoMemory) => Err(Status::NoMemory),
+    match parse_definitions(alloc, text) {
+        Ok(items) => {
+            if are_served(items.as_slice()) {
+                return Ok(items);
+            }
+            // What isn't served yet is told of the file's first byte.
+            let fault = DdlFault::Unsupported(0);
+            Err(Status::DefsRefused { line: 1, fault })
+        }
+        Err(DdlRefusal::Refused { line, fault }) => Err(Status::DefsRefused { line, fault }),
+        Err(DdlRefusal::NoMemory) => Err(Status::NoMemory),
     }
 }
 
-/// Loads a dictionary once, reads the input, and answers it.
-fn serve<S: Spawner, W: ChildWords, I: Source, O: Sink>(
+/// The items of a file, or the status that it ends the run with.
+fn read_definitions<F: Shelf>(
     alloc: Global,
-    requests: &Requests,
-    words: ListOf<Bytes>,
-    source: &SourceOf,
-    shape: Shape,
+    shelf: &mut F,
+    name: &str,
+) -> Result<ListOf<Item>, Status>
+    ensures read { ReadsDefinitions (F.file shelf.old name.now) result }
+    ensures sound { IfOk result (All IsSoundItem) }
+    ensures cause { HasCause (F.shelf_faults shelf.old) (F.shelf_faults shelf.new) (IsErrOf result Status.DefsUnread) }
+{
+    match shelf.read_file(name, MOST_DEFINITIONS) {
+        Ok(text) => {
+            // A shelf that tells nothing of its files doesn't promise it.
+            if text.len() > MOST_DEFINITIONS as usize {
+                return Err(Status::DefsTooLong);
+            }
+            read_items(alloc, text.as_slice())
+        }
+        Err(ShelfFault::Failed) => Err(Status::DefsUnread),
+        Err(ShelfFault::TooLong) => Err(Status::DefsTooLong),
+        Err(ShelfFault::NoMemory) => Err(Status::NoMemory),
+    }
+}
+
+/// Appends the dictionary of an item, where it is one, before its first load.
+fn add_item(
+    alloc: Global,
+    dictionaries: &mut ListOf<Dictionary>,
+    item: Item,
+    folder: &[u8],
+) -> Result<(), NoMemory>
+    requires { IsSoundItem item }
+    ensures { OnOk result (map holding dictionaries.new ≡ map holding dictionaries.old ++ opening folder.now (item ∷ [])) }
+{
+    let made = Dictionary::new(alloc, item, folder)?;
+    match made {
+        Some(dictionary) => dictionaries.push(dictionary),
+        None => Ok(()),
+    }
+}
+
+/// The dictionaries of these items, none of which was loaded yet.
+fn dictionaries_of(
+    alloc: Global,
+    items: ListOf<Item>,
+    folder: &[u8],
+) -> Result<Vec<Dictionary>, NoMemory>
+    requires { All IsSoundItem items }
+    ensures { IfOk result (λ all. map holding all.items ≡ opening folder.now items) }
+{
+    let mut dictionaries = ListOf::new(alloc);
+    let mut items = items;
+    while let Some(item) = items.pop_front() {
+        add_item(alloc, &mut dictionaries, item, folder)?;
+    }
+    Ok(dictionaries.into_vec())
+}
+
+/// Loads each dictionary once, reads the input, and answers it.
+fn serve<S: Spawner, I: Source, O: Sink>(
+    alloc: Global,
+    dictionaries: &mut [Dictionary],
     spawner: &mut S,
     input: &mut I,
     out: &mut O,
-    reply: &mut Bytes,
+    buffers: &mut Buffers,
 ) -> Status
-    requires words { words ≡ W.words }
-    requires shape { shape ≡ thin_shape }
-    requires input { I.ended input.old ≡ false }
+    requires { I.ended input.old ≡ false }
     ensures reads { RoseWhere (I.read_faults input.old) (I.read_faults input.new) (result ≡ Status.ReadFault) }
     ensures reads_well { result ≢ Status.ReadFault → result ≢ Status.WriteFault → I.read_faults input.new ≡ I.read_faults input.old }
     ensures writes { HasCause (O.write_faults out.old) (O.write_faults out.new) (result ≡ Status.WriteFault) }
-    ensures run { (d : ThinDefinition) → IsRequestsOf d requests.now → ServesRun d S.ran W.words (record { scripts = S.scripts spawner.old; left = I.left input.old; written = O.written out.old }) (record { scripts = S.scripts spawner.new; left = I.left input.new; written = O.written out.new }) result }
+    ensures run { ServesRun S.ran (map holding dictionaries.old) (record { scripts = S.scripts spawner.old; left = I.left input.old; written = O.written out.old }) (record { scripts = S.scripts spawner.new; left = I.left input.new; written = O.written out.new }) result }
 {
-    let mut dictionary = Dictionary::<S, W>::new(alloc, words, source, shape);
-    dictionary.load(alloc, spawner);
+    load_each(alloc, dictionaries, spawner);
     let Ok(asked) = read_input(alloc, input) else {
         return Status::NoMemory;
     };
-    let served = serve_input(
-        alloc,
-        requests,
-        &mut dictionary,
-        spawner,
-        out,
-        &asked,
-        reply,
-    );
-    // Its clause says that each version has its origin.
-    let _published = dictionary.versions.number();
+    let served = serve_input(alloc, dictionaries, spawner, out, &asked, buffers);
     status_of(served, asked.end)
 }
 
@@ -121,40 +161,31 @@ fn run<F: Shelf, S: Spawner, C: Clock, I: Source, O: Sink>(
     let Some(name) = once_file(words) else {
         return Status::Usage;
     };
-    let definition = match read_definition(alloc, shelf, name) {
-        Ok(definition) => definition,
+    let items = match read_definitions(alloc, shelf, name) {
+        Ok(items) => items,
         Err(status) => return status,
     };
-    let Ok(requests) = Requests::new(alloc, &definition) else {
-        return Status::NoMemory;
-    };
-    let Ok(mut reply) = Bytes::with_room(alloc, REPLY_ROOM) else {
+    let Ok(mut buffers) = Buffers::with_room(alloc, REPLY_ROOM) else {
         return Status::NoMemory;
     };
     let folder = folder_of(name.as_bytes());
-    let Ok(child_words) = words_of(alloc, &definition.source, folder) else {
-        return Status::NoMemory;
-    };
-    let Ok(shape) = row_shape(alloc) else {
+    let Ok(mut dictionaries) = dictionaries_of(alloc, items, folder) else {
         return Status::NoMemory;
     };
     clock.now();
-    serve::<S, Brand, I, O>(
+    serve(
         alloc,
-        &requests,
-        child_words,
-        &definition.source,
-        shape,
+        dictionaries.as_mut_slice(),
         spawner,
         input,
         out,
-        &mut reply,
+        &mut buffers,
     )
 }
 
-/// Runs `once DEFS SEED`: reads the definitions file, loads the dictionary once, and answers the lines
-/// of the input. A status other than Done is told on the error output; a write there that fails is
-/// passed over.
+/// Runs `once DEFS SEED`: reads the definitions file, loads each dictionary once, in the order of the file, and answers
+/// the lines of the input. A status other than Done is told on the error output; a write there that fails is passed
+/// over.
 pub fn once<F: Shelf, S: Spawner, C: Clock, I: Source, O: Sink, E: Sink>(
     alloc: Global,
     words: &[String],

@@ -1,142 +1,218 @@
 // One session: a reply for each line of an input, in order.
-ghost use Rattle.std.specs.Prelude.{◌≡◌, ◌++◌, ◌∷◌, [], ℕ, List, codes, IsErr, IfOk, OnOk, MatchOption, MatchResult};
-ghost use Rattle.std.specs.Prelude.{MatchBool};
+ghost use Rattle.std.specs.Prelude.{◌≡◌, ◌≤◌, None, Some, IsErr, MatchOption, OnOk, length, map, slice_get};
 ghost use Rattle.dict_io.specs.Outside.{HasCause};
-ghost use Rattle.dictd.specs.Loads.{State};
-ghost use Rattle.dictd.specs.Requests.{AsksFor, AsksToLoad, IsValue, refusal};
-ghost use Rattle.dictd.specs.Asked.{IsRequestsOf};
-ghost use Rattle.dictd.specs.declared.thin.ThinDefinition.{ThinDefinition};
-ghost use Rattle.dictd.specs.Sessions.{Says, WritesReply, ServesLines, ServesInput};
+ghost use Rattle.dictd.specs.Asking.{LooksAt, LooksIn};
+ghost use Rattle.dictd.specs.Requests.{IsOfKey};
+ghost use Rattle.dictd.specs.Sessions.{LooksUp, Says, SaysRequest, ServesInput, ServesLines, Shows, WritesReply, holding, state_of};
 
+use crate::dictionary::Dictionary;
 use crate::input::{Input, InputEnd};
-use crate::load::{ChildWords, Dictionary};
-use crate::reply::{NO_MEMORY_REPLY, TOO_LONG_REPLY, load_reply, plain_reply, value_reply};
-use crate::thin::{ThinDefinition, text_after};
+use crate::reply::{
+    Buffers, NO_MEMORY_REPLY, TOO_LONG_REPLY, load_reply, plain_reply, shown_reply, value_reply,
+};
+use crate::request::{attribute_place, key_of, place_of};
 use child_io::Spawner;
 use dict_io::{Failed, Sink, write_all};
-use dict_value::{Bytes, NoMemory, read_digits, split_at_byte};
+use dict_schema::{Shape, ShapeColumn};
+use dict_value::{NoMemory, split_at_byte};
 use std::alloc::Global;
 use version_slot::Viewer;
+use wire_text::{Asked, Request, RequestFault, read_request};
 
-/// What a dictionary's requests begin with: a lookup's text before its key, and a load's whole line.
-#[derive(Debug, Drop)]
-pub struct Requests {
-    pub lookup: Bytes,
-    pub reload: Bytes,
+/// The column of a row at a place, where there is one.
+fn column_of(shape: &Shape, place: usize) -> Option<&ShapeColumn>
+    ensures { MatchOption result (slice_get shape.now place ≡ None) (λ column. slice_get shape.now place ≡ Some column.now) }
+{
+    shape.as_slice().get(place)
 }
 
-impl Requests {
-    ghost use Rattle.std.specs.Prelude.{◌≡◌, IfOk, MatchOption, MatchBool};
-    ghost use Rattle.dictd.specs.Requests.{AsksFor, AsksToLoad};
-    ghost use Rattle.dictd.specs.Asked.{IsRequestsOf};
-    ghost use Rattle.dictd.specs.declared.thin.ThinDefinition.{ThinDefinition};
-
-    pub fn new(alloc: Global, definition: &ThinDefinition) -> Result<Requests, NoMemory>
-        ensures { IfOk result (IsRequestsOf definition.now) }
-    {
-        let mut lookup = Bytes::copy_of(alloc, b"dictGet\t")?;
-        lookup.extend(definition.name.as_slice())?;
-        lookup.extend(b"\t")?;
-        lookup.extend(definition.attribute.as_slice())?;
-        lookup.extend(b"\t")?;
-        let mut reload = Bytes::copy_of(alloc, b"reload\t")?;
-        reload.extend(definition.name.as_slice())?;
-        Ok(Requests { lookup, reload })
-    }
-
-    /// The key that a line asks for.
-    fn key_of(&self, line: &[u8]) -> Option<u64>
-        ensures { (d : ThinDefinition) → IsRequestsOf d self.now → MatchOption result ((key : ℕ) → AsksFor d line.now key → ⊥) (AsksFor d line.now) }
-    {
-        match text_after(line, self.lookup.as_slice()) {
-            Some(digits) => read_digits(digits),
-            None => None,
-        }
-    }
-
-    /// The line asks for a load.
-    fn is_reload(&self, line: &[u8]) -> bool
-        ensures { (d : ThinDefinition) → IsRequestsOf d self.now → MatchBool result (AsksToLoad d line.now) (AsksToLoad d line.now → ⊥) }
-    {
-        line == self.reload.as_slice()
-    }
-}
-
-/// The reply to a lookup of a key.
-fn answer_key<S: Spawner, W: ChildWords>(
-    dictionary: &mut Dictionary<S, W>,
+/// The reply to a lookup in what was seen of a dictionary.
+fn look_at(
+    alloc: Global,
+    dictionary: &mut Dictionary,
+    place: usize,
     key: u64,
-    reply: &mut Bytes,
+    buffers: &mut Buffers,
 ) -> Result<(), NoMemory>
-    ensures versions { dictionary.new.versions ≡ dictionary.old.versions }
-    ensures core { dictionary.new.core ≡ dictionary.old.core }
-    ensures value { OnOk result (IsValue dictionary.old.versions key reply.new) }
+    ensures same { holding dictionary.new ≡ holding dictionary.old }
+    ensures reply { OnOk result (LooksAt (holding dictionary.old) place key buffers.new.reply) }
 {
     let Ok(seen) = dictionary.versions.enter() else {
         return Err(NoMemory);
     };
-    match seen.version() {
-        Some(rows) => value_reply(reply, seen.number(), rows, key),
-        None => plain_reply(reply, b"ERR\t5\n"),
+    match column_of(&dictionary.shape, place) {
+        Some(column) => match seen.version() {
+            Some(rows) => value_reply(alloc, buffers, seen.number(), rows, key, place, column),
+            None => plain_reply(&mut buffers.reply, b"ERR\t5\n"),
+        },
+        None => plain_reply(&mut buffers.reply, b"ERR\t1\n"),
+    }
+}
+
+/// The reply to a lookup in a dictionary.
+fn look_in(
+    alloc: Global,
+    dictionary: &mut Dictionary,
+    attribute: &[u8],
+    key: u64,
+    buffers: &mut Buffers,
+) -> Result<(), NoMemory>
+    ensures same { holding dictionary.new ≡ holding dictionary.old }
+    ensures reply { OnOk result (LooksIn (holding dictionary.old) attribute.now key buffers.new.reply) }
+{
+    match attribute_place(&dictionary.definition, attribute) {
+        Some(place) => look_at(alloc, dictionary, place, key, buffers),
+        None => plain_reply(&mut buffers.reply, b"ERR\t1\n"),
+    }
+}
+
+/// The reply to a lookup with this key.
+fn look_for(
+    alloc: Global,
+    dictionaries: &mut [Dictionary],
+    asked: &Asked,
+    key: u64,
+    buffers: &mut Buffers,
+) -> Result<(), NoMemory>
+    requires { IsOfKey asked.now key }
+    ensures same { map holding dictionaries.new ≡ map holding dictionaries.old }
+    ensures reply { OnOk result (LooksUp (map holding dictionaries.old) asked.now buffers.new.reply) }
+{
+    match place_of(dictionaries, asked.name.as_slice()) {
+        Some(place) => {
+            let attribute = asked.attribute.as_slice();
+            look_in(alloc, &mut dictionaries[place], attribute, key, buffers)
+        }
+        None => plain_reply(&mut buffers.reply, b"ERR\t1\n"),
+    }
+}
+
+/// The reply to a lookup.
+fn look_up(
+    alloc: Global,
+    dictionaries: &mut [Dictionary],
+    asked: &Asked,
+    buffers: &mut Buffers,
+) -> Result<(), NoMemory>
+    ensures same { map holding dictionaries.new ≡ map holding dictionaries.old }
+    ensures reply { OnOk result (LooksUp (map holding dictionaries.old) asked.now buffers.new.reply) }
+{
+    match key_of(asked) {
+        Some(key) => look_for(alloc, dictionaries, asked, key, buffers),
+        None => plain_reply(&mut buffers.reply, b"ERR\t1\n"),
+    }
+}
+
+/// The reply to a request for a dictionary's text.
+fn show(dictionaries: &[Dictionary], name: &[u8], buffers: &mut Buffers) -> Result<(), NoMemory>
+    ensures { OnOk result (Shows (map holding dictionaries.now) name.now buffers.new.reply) }
+{
+    match place_of(dictionaries, name) {
+        Some(place) => shown_reply(&mut buffers.reply, dictionaries[place].text.as_slice()),
+        None => plain_reply(&mut buffers.reply, b"ERR\t2\n"),
+    }
+}
+
+/// The reply to a request for a load.
+fn reload<S: Spawner>(
+    alloc: Global,
+    dictionaries: &mut [Dictionary],
+    spawner: &mut S,
+    name: &[u8],
+    buffers: &mut Buffers,
+) -> Result<(), NoMemory>
+    ensures { let old = state_of dictionaries.old (S.scripts spawner.old) in
+        let new = state_of dictionaries.new (S.scripts spawner.new) in
+        SaysRequest S.ran old (Request.Reload name.now) result buffers.new.reply new }
+{
+    match place_of(dictionaries, name) {
+        Some(place) => {
+            let end = dictionaries[place].load(alloc, spawner);
+            load_reply(&mut buffers.reply, end)
+        }
+        None => plain_reply(&mut buffers.reply, b"ERR\t1\n"),
+    }
+}
+
+/// The reply to a request.
+fn answer_request<S: Spawner>(
+    alloc: Global,
+    dictionaries: &mut [Dictionary],
+    spawner: &mut S,
+    request: &Request,
+    buffers: &mut Buffers,
+) -> Result<(), NoMemory>
+    ensures { let old = state_of dictionaries.old (S.scripts spawner.old) in
+        let new = state_of dictionaries.new (S.scripts spawner.new) in
+        SaysRequest S.ran old request.now result buffers.new.reply new }
+{
+    match request {
+        Request::Asked(asked) => look_up(alloc, dictionaries, asked, buffers),
+        Request::Reload(name) => reload(alloc, dictionaries, spawner, name.as_slice(), buffers),
+        Request::Show(name) => show(dictionaries, name.as_slice(), buffers),
+        _ => plain_reply(&mut buffers.reply, b"ERR\t1\n"),
     }
 }
 
 /// The reply to a line; without memory, error 99 stands in its place.
-fn answer<S: Spawner, W: ChildWords>(
+fn answer<S: Spawner>(
     alloc: Global,
-    requests: &Requests,
-    dictionary: &mut Dictionary<S, W>,
+    dictionaries: &mut [Dictionary],
     spawner: &mut S,
     line: &[u8],
-    reply: &mut Bytes,
+    buffers: &mut Buffers,
 ) -> Result<(), NoMemory>
-    ensures { (d : ThinDefinition) → IsRequestsOf d requests.now → Says d (record { versions = dictionary.old.versions; core = dictionary.old.core; scripts = S.scripts spawner.old }) line.now result reply.new (record { versions = dictionary.new.versions; core = dictionary.new.core; scripts = S.scripts spawner.new }) }
+    requires { length line.now ≤ 65536 }
+    ensures { let old = state_of dictionaries.old (S.scripts spawner.old) in
+        let new = state_of dictionaries.new (S.scripts spawner.new) in
+        Says S.ran old line.now result buffers.new.reply new }
 {
-    if requests.is_reload(line) {
-        let end = dictionary.load(alloc, spawner);
-        return load_reply(reply, end);
-    }
-    match requests.key_of(line) {
-        Some(key) => answer_key(dictionary, key, reply),
-        None => plain_reply(reply, b"ERR\t1\n"),
+    match read_request(alloc, line, &[]) {
+        Ok(request) => answer_request(alloc, dictionaries, spawner, &request, buffers),
+        Err(RequestFault::Bad) => plain_reply(&mut buffers.reply, b"ERR\t1\n"),
+        Err(RequestFault::NoMemory) => Err(NoMemory),
     }
 }
 
 /// Answers one line, and writes the reply.
-fn serve_line<S: Spawner, W: ChildWords, O: Sink>(
+fn serve_line<S: Spawner, O: Sink>(
     alloc: Global,
-    requests: &Requests,
-    dictionary: &mut Dictionary<S, W>,
+    dictionaries: &mut [Dictionary],
     spawner: &mut S,
     out: &mut O,
     line: &[u8],
-    reply: &mut Bytes,
+    buffers: &mut Buffers,
 ) -> Result<(), Failed>
+    requires { length line.now ≤ 65536 }
     ensures cause { HasCause (O.write_faults out.old) (O.write_faults out.new) (IsErr result) }
-    ensures reply { (d : ThinDefinition) → IsRequestsOf d requests.now → WritesReply d (record { versions = dictionary.old.versions; core = dictionary.old.core; scripts = S.scripts spawner.old }) line.now (O.written out.old) result (O.written out.new) (record { versions = dictionary.new.versions; core = dictionary.new.core; scripts = S.scripts spawner.new }) }
+    ensures reply { let old = state_of dictionaries.old (S.scripts spawner.old) in
+        let new = state_of dictionaries.new (S.scripts spawner.new) in
+        WritesReply S.ran old line.now (O.written out.old) result (O.written out.new) new }
 {
-    match answer(alloc, requests, dictionary, spawner, line, reply) {
-        Ok(()) => write_all(out, reply.as_slice()),
+    match answer(alloc, dictionaries, spawner, line, buffers) {
+        Ok(()) => write_all(out, buffers.reply.as_slice()),
         Err(_) => write_all(out, NO_MEMORY_REPLY),
     }
 }
 
 /// Answers each whole line of a text, and gives what stands behind the last line feed.
-fn serve_lines<'a, S: Spawner, W: ChildWords, O: Sink>(
+fn serve_lines<'a, S: Spawner, O: Sink>(
     alloc: Global,
-    requests: &Requests,
-    dictionary: &mut Dictionary<S, W>,
+    dictionaries: &mut [Dictionary],
     spawner: &mut S,
     out: &mut O,
     text: &'a [u8],
-    reply: &mut Bytes,
+    buffers: &mut Buffers,
 ) -> Result<&'a [u8], Failed>
+    requires { length text.now ≤ 65536 }
     ensures cause { HasCause (O.write_faults out.old) (O.write_faults out.new) (IsErr result) }
-    ensures lines { (d : ThinDefinition) → IsRequestsOf d requests.now → ServesLines d (record { versions = dictionary.old.versions; core = dictionary.old.core; scripts = S.scripts spawner.old }) text.now (O.written out.old) result (O.written out.new) (record { versions = dictionary.new.versions; core = dictionary.new.core; scripts = S.scripts spawner.new }) }
+    ensures lines { let old = state_of dictionaries.old (S.scripts spawner.old) in
+        let new = state_of dictionaries.new (S.scripts spawner.new) in
+        ServesLines S.ran old text.now (O.written out.old) result (O.written out.new) new }
 {
     let mut rest = text;
     while let Some((line, behind)) = split_at_byte(rest, b'\n') {
-        match serve_line(alloc, requests, dictionary, spawner, out, line, reply) {
+        match serve_line(alloc, dictionaries, spawner, out, line, buffers) {
             Ok(()) => {}
             Err(_) => return Err(Failed),
         }
@@ -146,65 +222,71 @@ fn serve_lines<'a, S: Spawner, W: ChildWords, O: Sink>(
 }
 
 /// Answers a text that was read to its end: a last line with at least one byte may lack its line feed.
-fn serve_whole<S: Spawner, W: ChildWords, O: Sink>(
+fn serve_whole<S: Spawner, O: Sink>(
     alloc: Global,
-    requests: &Requests,
-    dictionary: &mut Dictionary<S, W>,
+    dictionaries: &mut [Dictionary],
     spawner: &mut S,
     out: &mut O,
     text: &[u8],
-    reply: &mut Bytes,
+    buffers: &mut Buffers,
 ) -> Result<(), Failed>
+    requires { length text.now ≤ 65536 }
     ensures cause { HasCause (O.write_faults out.old) (O.write_faults out.new) (IsErr result) }
-    ensures served { (d : ThinDefinition) → IsRequestsOf d requests.now → ServesInput d InputEnd.Ended text.now (record { versions = dictionary.old.versions; core = dictionary.old.core; scripts = S.scripts spawner.old }) (O.written out.old) result (O.written out.new) (record { versions = dictionary.new.versions; core = dictionary.new.core; scripts = S.scripts spawner.new }) }
+    ensures served { let old = state_of dictionaries.old (S.scripts spawner.old) in
+        let new = state_of dictionaries.new (S.scripts spawner.new) in
+        ServesInput S.ran InputEnd.Ended text.now old (O.written out.old) result (O.written out.new) new }
 {
-    match serve_lines(alloc, requests, dictionary, spawner, out, text, reply) {
+    match serve_lines(alloc, dictionaries, spawner, out, text, buffers) {
         Ok(last) => {
             if last.is_empty() {
                 return Ok(());
             }
-            serve_line(alloc, requests, dictionary, spawner, out, last, reply)
+            serve_line(alloc, dictionaries, spawner, out, last, buffers)
         }
         Err(_) => Err(Failed),
     }
 }
 
 /// Answers a text of which more was to come: its whole lines.
-fn serve_front<S: Spawner, W: ChildWords, O: Sink>(
+fn serve_front<S: Spawner, O: Sink>(
     alloc: Global,
-    requests: &Requests,
-    dictionary: &mut Dictionary<S, W>,
+    dictionaries: &mut [Dictionary],
     spawner: &mut S,
     out: &mut O,
     text: &[u8],
-    reply: &mut Bytes,
+    buffers: &mut Buffers,
 ) -> Result<(), Failed>
+    requires { length text.now ≤ 65536 }
     ensures cause { HasCause (O.write_faults out.old) (O.write_faults out.new) (IsErr result) }
-    ensures served { (d : ThinDefinition) → IsRequestsOf d requests.now → ServesInput d InputEnd.Failed text.now (record { versions = dictionary.old.versions; core = dictionary.old.core; scripts = S.scripts spawner.old }) (O.written out.old) result (O.written out.new) (record { versions = dictionary.new.versions; core = dictionary.new.core; scripts = S.scripts spawner.new }) }
+    ensures served { let old = state_of dictionaries.old (S.scripts spawner.old) in
+        let new = state_of dictionaries.new (S.scripts spawner.new) in
+        ServesInput S.ran InputEnd.Failed text.now old (O.written out.old) result (O.written out.new) new }
 {
-    match serve_lines(alloc, requests, dictionary, spawner, out, text, reply) {
+    match serve_lines(alloc, dictionaries, spawner, out, text, buffers) {
         Ok(_) => Ok(()),
         Err(_) => Err(Failed),
     }
 }
 
 /// Answers what was read of an input, by how far that was.
-pub fn serve_input<S: Spawner, W: ChildWords, O: Sink>(
+pub fn serve_input<S: Spawner, O: Sink>(
     alloc: Global,
-    requests: &Requests,
-    dictionary: &mut Dictionary<S, W>,
+    dictionaries: &mut [Dictionary],
     spawner: &mut S,
     out: &mut O,
     input: &Input,
-    reply: &mut Bytes,
+    buffers: &mut Buffers,
 ) -> Result<(), Failed>
+    requires { length input.now.text ≤ 65536 }
     ensures cause { HasCause (O.write_faults out.old) (O.write_faults out.new) (IsErr result) }
-    ensures served { (d : ThinDefinition) → IsRequestsOf d requests.now → ServesInput d input.now.end input.now.text (record { versions = dictionary.old.versions; core = dictionary.old.core; scripts = S.scripts spawner.old }) (O.written out.old) result (O.written out.new) (record { versions = dictionary.new.versions; core = dictionary.new.core; scripts = S.scripts spawner.new }) }
+    ensures served { let old = state_of dictionaries.old (S.scripts spawner.old) in
+        let new = state_of dictionaries.new (S.scripts spawner.new) in
+        ServesInput S.ran input.now.end input.now.text old (O.written out.old) result (O.written out.new) new }
 {
     let text = input.text.as_slice();
     match input.end {
-        InputEnd::Ended => serve_whole(alloc, requests, dictionary, spawner, out, text, reply),
-        InputEnd::Failed => serve_front(alloc, requests, dictionary, spawner, out, text, reply),
+        InputEnd::Ended => serve_whole(alloc, dictionaries, spawner, out, text, buffers),
+        InputEnd::Failed => serve_front(alloc, dictionaries, spawner, out, text, buffers),
         InputEnd::TooLong => write_all(out, TOO_LONG_REPLY),
     }
 }

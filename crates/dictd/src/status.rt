@@ -1,9 +1,12 @@
 // How a run of the program ends: its status, the number that tells it to the caller, and its text.
-ghost use Rattle.std.specs.Prelude.{◌≡◌};
-ghost use Rattle.dict_io.specs.Outside.{Rose};
-ghost use Rattle.dictd.specs.Statuses.{Tells, status_text};
+ghost use Rattle.std.specs.Prelude.{◌≡◌, ◌++◌, ◌∷◌, [], IsErr, codes, decimal};
+ghost use Rattle.dict_io.specs.Outside.{HasCause, Rose, WritesPrefix};
+ghost use Rattle.ddl_text.specs.Faults.{place_of_fault, words_of};
+ghost use Rattle.dictd.specs.Statuses.{Tells, fault_text, status_text};
 
-use dict_io::{Sink, write_all};
+use ddl_text::{DdlFault, fault_words, place_of};
+use dict_io::{Failed, Sink, write_all};
+use itoa::Buffer;
 
 /// How a run ended.
 #[derive(Clone, Copy, Debug, PartialEq, Eq)]
@@ -11,7 +14,8 @@ pub enum Status {
     Done,
     Usage,
     DefsUnread,
-    DefsRefused,
+    /// The definitions file has this fault in this line, from 1; the fault has its byte, from 0.
+    DefsRefused { line: u32, fault: DdlFault },
     ReadFault,
     WriteFault,
     LineTooLong,
@@ -21,7 +25,7 @@ pub enum Status {
 
 impl Status {
     ghost use Rattle.std.specs.Prelude.{◌≡◌};
-    ghost use Rattle.dictd.specs.Statuses.{status_number, status_text};
+    ghost use Rattle.dictd.specs.Statuses.{status_number};
 
     /// The number that the program ends with.
     pub fn number(self) -> u8
@@ -31,7 +35,7 @@ impl Status {
             Status::Done => 0,
             Status::Usage => 2,
             Status::DefsUnread => 3,
-            Status::DefsRefused => 4,
+            Status::DefsRefused { .. } => 4,
             Status::ReadFault => 5,
             Status::WriteFault => 6,
             Status::LineTooLong => 7,
@@ -39,23 +43,79 @@ impl Status {
             Status::NoMemory => 12,
         }
     }
+}
 
-    /// The text that tells it, with its line feed.
-    pub fn text(self) -> &'static [u8]
-        ensures { result.now ≡ status_text self }
-    {
-        match self {
-            Status::Done => b"",
-            Status::Usage =>
-                b"usage: dictd once DEFS SEED | dictd serve DEFS ADDR WORKERS SEED | dictd demo N SEED\n",
-            Status::DefsUnread => b"cannot read definitions\n",
-            Status::DefsRefused => b"definitions line 1 byte 0: unsupported\n",
-            Status::ReadFault => b"read failed\n",
-            Status::WriteFault => b"write failed\n",
-            Status::LineTooLong => b"line too long\n",
-            Status::DefsTooLong => b"definitions too long\n",
-            Status::NoMemory => b"no memory\n",
-        }
+/// Writes a piece and another behind it.
+fn write_both<E: Sink>(err: &mut E, first: &[u8], second: &[u8]) -> Result<(), Failed>
+    ensures bytes { WritesPrefix (E.written err.old) (E.written err.new) (first.now ++ second.now) result }
+    ensures cause { HasCause (E.write_faults err.old) (E.write_faults err.new) (IsErr result) }
+{
+    match write_all(err, first) {
+        Ok(()) => write_all(err, second),
+        Err(fault) => Err(fault),
+    }
+}
+
+/// Writes a piece and a number behind it.
+fn write_number<E: Sink>(err: &mut E, piece: &[u8], number: u32) -> Result<(), Failed>
+    ensures bytes { WritesPrefix (E.written err.old) (E.written err.new) (piece.now ++ decimal number) result }
+    ensures cause { HasCause (E.write_faults err.old) (E.write_faults err.new) (IsErr result) }
+{
+    let mut digits = Buffer::new();
+    write_both(err, piece, digits.format(number).as_bytes())
+}
+
+/// Writes the words of a fault and the end of their line.
+fn write_words<E: Sink>(err: &mut E, fault: &DdlFault) -> Result<(), Failed>
+    ensures bytes { WritesPrefix (E.written err.old) (E.written err.new) (codes ": " ++ (words_of fault.now ++ 10 ∷ [])) result }
+    ensures cause { HasCause (E.write_faults err.old) (E.write_faults err.new) (IsErr result) }
+{
+    match write_all(err, b": ") {
+        Ok(()) => write_both(err, fault_words(fault), b"\n"),
+        Err(fault) => Err(fault),
+    }
+}
+
+/// Writes the byte and the words of a fault.
+fn write_place<E: Sink>(err: &mut E, fault: &DdlFault) -> Result<(), Failed>
+    ensures bytes { WritesPrefix (E.written err.old) (E.written err.new) ((codes " byte " ++ decimal (place_of_fault fault.now)) ++ (codes ": " ++ (words_of fault.now ++ 10 ∷ []))) result }
+    ensures cause { HasCause (E.write_faults err.old) (E.write_faults err.new) (IsErr result) }
+{
+    match write_number(err, b" byte ", place_of(fault)) {
+        Ok(()) => write_words(err, fault),
+        Err(fault) => Err(fault),
+    }
+}
+
+/// Writes a fault of a definitions file, which takes no memory.
+fn write_fault<E: Sink>(err: &mut E, line: u32, fault: &DdlFault) -> Result<(), Failed>
+    ensures bytes { WritesPrefix (E.written err.old) (E.written err.new) (fault_text line fault.now) result }
+    ensures cause { HasCause (E.write_faults err.old) (E.write_faults err.new) (IsErr result) }
+{
+    match write_number(err, b"definitions line ", line) {
+        Ok(()) => write_place(err, fault),
+        Err(fault) => Err(fault),
+    }
+}
+
+/// Writes the text that tells a status, with its line feed.
+fn write_status<E: Sink>(err: &mut E, status: Status) -> Result<(), Failed>
+    ensures bytes { WritesPrefix (E.written err.old) (E.written err.new) (status_text status) result }
+    ensures cause { HasCause (E.write_faults err.old) (E.write_faults err.new) (IsErr result) }
+{
+    match status {
+        Status::Done => Ok(()),
+        Status::Usage => write_all(
+            err,
+            b"usage: dictd once DEFS SEED | dictd serve DEFS ADDR WORKERS SEED | dictd demo N SEED\n",
+        ),
+        Status::DefsUnread => write_all(err, b"cannot read definitions\n"),
+        Status::DefsRefused { line, fault } => write_fault(err, line, &fault),
+        Status::ReadFault => write_all(err, b"read failed\n"),
+        Status::WriteFault => write_all(err, b"write failed\n"),
+        Status::LineTooLong => write_all(err, b"line too long\n"),
+        Status::DefsTooLong => write_all(err, b"definitions too long\n"),
+        Status::NoMemory => write_all(err, b"no memory\n"),
     }
 }
 
@@ -63,5 +123,5 @@ impl Status {
 pub fn tell<E: Sink>(err: &mut E, status: Status)
     ensures { Tells (E.written err.old) (E.written err.new) (status_text status) (Rose (E.write_faults err.old) (E.write_faults err.new)) }
 {
-    let _ = write_all(err, status.text());
+    let _ = write_status(err, status);
 }

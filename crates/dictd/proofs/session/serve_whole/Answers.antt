@@ -4,11 +4,11 @@ use Rattle.dictd.proofs.Lines.{whole-last, whole-failed}
 use Rattle.dictd.proofs.session.serve_whole.Goals as goal
 
 pub returns-else-is_empty-clause-served : goal.returns-else-is_empty-clause-served
-returns-else-is_empty-clause-served g c = λ d is.
-    let l = c.in-Ok.ensures.lines d is in
-    whole-last d _ _ _ c.args.text.now c.in-Ok.last.now _ _ _ l.0 l.1 c.serve_line.result l.2 l.3 l.4 (grind (arith, common_steps)) (c.serve_line.ensures.reply d is)
+returns-else-is_empty-clause-served g c =
+    let l = c.in-Ok.ensures.lines in
+    whole-last _ _ _ _ c.args.text.now c.in-Ok.last.now _ _ _ l.0 l.1 c.serve_line.result l.2 l.3 l.4 (grind (arith, common_steps)) c.serve_line.ensures.reply
 
 pub returns-in-Err-clause-served : goal.returns-in-Err-clause-served
-returns-in-Err-clause-served g c = λ d is.
-    let l = c.in-Err.ensures.lines d is in
-    whole-failed d _ _ c.args.text.now l.1 _ _ l.0 l.2 c.in-Err.field-0 l.3 l.4 l.5
+returns-in-Err-clause-served g c =
+    let l = c.in-Err.ensures.lines in
+    whole-failed _ _ _ c.args.text.now l.1 _ _ l.0 l.2 c.in-Err.field-0 l.3 l.4 l.5

@@ -1,0 +1,8 @@
+use Rattle.dictd.proofs.Telling.{wrote-both, wrote-first}
+use Rattle.dictd.proofs.status.write_fault.Goals as goal
+
+pub returns-in-Ok-clause-bytes : goal.returns-in-Ok-clause-bytes
+returns-in-Ok-clause-bytes g c = wrote-both _ _ _ _ _ c.write_place.result c.in-Ok.ensures.bytes c.write_place.ensures.bytes
+
+pub returns-in-Err-clause-bytes : goal.returns-in-Err-clause-bytes
+returns-in-Err-clause-bytes g c = wrote-first _ _ _ _ _ _ c.in-Err.ensures.bytes
