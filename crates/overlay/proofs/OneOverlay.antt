@@ -1,14 +1,13 @@
 -- What stands is one list, of the rows' types and with one row for each key.
-use Rattle.std.proofs.Common.{◌≡◌, ◌≢◌, ◌<◌, ◌⊎◌, ◌++◌, ℕ, zero, suc, List, [], ◌∷◌, length, map, take, Some, Contains, All, refl, sym, ◌∙◌, ap, subst, inl, inr, arith, get_or, slice_get, option_map}
+use Rattle.std.proofs.Common.{◌≡◌, ◌≢◌, ◌<◌, ◌⊎◌, ◌++◌, ℕ, zero, suc, List, [], ◌∷◌, map, take, Some, Contains, refl, sym, ◌∙◌, ap, subst, inl, inr, arith, get_or, slice_get, option_map}
 use Rattle.std.specs.List.{AllPairs, AllZip}
-use Rattle.std.proofs.lemmas.Bool.{cases_lt}
 use Rattle.std.proofs.lemmas.List.Elements.{All-append}
 use Rattle.std.proofs.lemmas.Option.{none-some, same_Some, slice_get_within, slice_get-get_or, slice_get-map, get_or_from_slice_get}
 use Rattle.dict_value.specs.Values.{FitsColumn}
 use Rattle.dict_value.specs.declared.value.AttrType.{AttrType}
 use Rattle.dict_value.specs.declared.value.Value.{Value}
 use Rattle.packed_rows.specs.Columns.{RowList}
-use Rattle.overlay.specs.Overlays.{HaveTypes, IsFirst, keys_of, Overlay, StandOf}
+use Rattle.overlay.specs.Overlays.{HaveTypes, keys_of, Overlay}
 
 -- numbers that rise
 abbrev Rises : List ℕ → Type 0

@@ -1,12 +1,12 @@
 -- Which rows stand, row by row.
-use Rattle.std.proofs.Common.{◌≡◌, ◌≢◌, ◌↔◌, ◌⊎◌, ◌+◌, ◌<◌, ◌≤◌, ℕ, zero, suc, List, [], ◌∷◌, ◌++◌, length, map, take, Option, Some, None, Contains, All, IfSome, refl, sym, ◌∙◌, ap, subst, inl, inr, arith, get_or, slice_get, ◌-◌, false}
-use Rattle.std.specs.List.{AllPairs, AllZip}
+use Rattle.std.proofs.Common.{◌≡◌, ◌≢◌, ◌↔◌, ◌+◌, ◌<◌, ℕ, zero, suc, List, [], ◌∷◌, ◌++◌, length, map, take, Option, Some, None, Contains, IfSome, refl, sym, ◌∙◌, ap, subst, inl, inr, arith, get_or, slice_get, ◌-◌, false}
+use Rattle.std.specs.List.{AllZip}
 use Rattle.std.proofs.lemmas.Bool.{cases_lt, cases_eq}
 use Rattle.std.proofs.lemmas.List.{get_or_default, length-map, map_push, take_more}
 use Rattle.std.proofs.lemmas.List.Elements.{Contains-append_left, Contains-push, Contains-push_cases}
 use Rattle.std.proofs.lemmas.List.Quantifiers.{all_pairs_push}
 use Rattle.std.proofs.lemmas.Slice.Zip.{AllZip-long}
-use Rattle.std.proofs.lemmas.Option.{none-some, same_Some, slice_get_within, slice_get-get_or, slice_get_past, get_or_from_slice_get}
+use Rattle.std.proofs.lemmas.Option.{none-some, same_Some, slice_get_within, slice_get-get_or, get_or_from_slice_get}
 use Rattle.dict_value.specs.FindByKey.{HasKeyAt, IsLeastPlace, FindsByKey}
 use Rattle.dict_value.specs.Values.{FitsColumn}
 use Rattle.dict_value.specs.declared.value.AttrType.{AttrType}
@@ -14,7 +14,7 @@ use Rattle.dict_value.specs.declared.value.ColType.TheVariants.{UInt64}
 use Rattle.dict_value.specs.declared.value.Value.{Value}
 use Rattle.packed_rows.specs.Columns.{RowList, cell_at, cell_of}
 use Rattle.packed_rows.specs.Packs.{Building}
-use Rattle.overlay.specs.Overlays.{HaveTypes, IsFirst, keys_of, StandOf, Overlay}
+use Rattle.overlay.specs.Overlays.{HaveTypes, IsFirst, keys_of, StandOf}
 use Rattle.overlay.specs.steps.Standing.{AddsRow, IsBetween, IsFirstBehind, StandTo}
 
 -- a key has one least place

@@ -1,5 +1,5 @@
 -- The rows that stand of a front.
-use Rattle.std.specs.Prelude.{◌≡◌, ◌↔◌, ◌<◌, ◌++◌, ◌∷◌, [], ℕ, List, Some, Contains, IfSome, map, length, slice_get}
+use Rattle.std.specs.Prelude.{◌≡◌, ◌↔◌, ◌<◌, ◌++◌, ◌∷◌, [], ℕ, List, Some, Contains, IfSome, map, slice_get}
 use Rattle.std.specs.List.{AllPairs}
 use Rattle.dict_value.specs.FindByKey.{HasKeyAt}
 use Rattle.dict_value.specs.declared.value.AttrType.{AttrType}

@@ -1,4 +1,4 @@
-use Rattle.std.proofs.Common.{◌≡◌, ◌∙◌, IsTrue, length, refl, subst, sym, true, false}
+use Rattle.std.proofs.Common.{◌≡◌, ◌∙◌, length, refl, subst, sym, true, false}
 use Rattle.std.proofs.lemmas.Option.{same_Some, slice_get_read}
 use Rattle.dict_value.specs.FindByKey.{HasKeyAt}
 use Rattle.overlay.proofs.keys.is_first_behind.Goals as goal

@@ -2,7 +2,6 @@ use Rattle.std.proofs.Common.{◌≡◌, ◌+◌, ◌∙◌, ◌++◌, ℕ, List
 use Rattle.std.proofs.lemmas.List.{length-map, map-append}
 use Rattle.dict_value.specs.declared.value.Value.{Value}
 use Rattle.hashed_layout.specs.KeyTables.{IsKeyTableOf}
-use Rattle.packed_rows.specs.Columns.{RowList}
 use Rattle.overlay.specs.Overlays.{StandOf, keys_of}
 use Rattle.overlay.specs.steps.Standing.{StandTo}
 use Rattle.overlay.proofs.Standing.{stand-whole}

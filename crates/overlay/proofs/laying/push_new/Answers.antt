@@ -1,8 +1,7 @@
-use Rattle.std.proofs.Common.{◌≡◌, ◌<◌, ◌+◌, ◌∙◌, ◌++◌, ◌∷◌, [], ℕ, List, Some, ap, sym, subst, arith, get_or, slice_get, length, true, false}
+use Rattle.std.proofs.Common.{◌≡◌, ◌<◌, ◌+◌, ◌∙◌, ◌++◌, ◌∷◌, [], List, Some, ap, sym, subst, arith, get_or, slice_get, length, true, false}
 use Rattle.std.proofs.lemmas.List.{length_push}
 use Rattle.std.proofs.lemmas.Option.{slice_get-get_or}
 use Rattle.dict_value.specs.declared.value.Value.{Value}
-use Rattle.packed_rows.specs.Columns.{RowList}
 use Rattle.packed_rows.specs.Packs.{Building}
 use Rattle.overlay.specs.steps.Standing.{IsBetween, StandTo}
 use Rattle.overlay.proofs.Standing.{added, between-added, first-front, get-front, stand-more, stand-skip, with_row}
