@@ -5,8 +5,8 @@ ghost use Rattle.dict_schema.specs.Sound.{IsSoundItem};
 ghost use Rattle.ddl_tokens.specs.Tokens.{Token};
 ghost use Rattle.ddl_writing.specs.Canonical.{item_text};
 ghost use Rattle.ddl_text.specs.Files.{IsDefined};
-ghost use Rattle.ddl_text.specs.Again.{CacheFits, Defines, DefinitionFits, LagFits, LayoutFits, LifetimeFits, NumbersFit};
-ghost use Rattle.ddl_text.specs.Again.{SourceFits, TextHas};
+ghost use Rattle.ddl_text.specs.Again.{CacheFits, Defines, DefinitionFits, LagFits, LayoutFits, LifetimeFits};
+ghost use Rattle.ddl_text.specs.Again.{NumbersFit, SourceFits, TextHas};
 
 use dict_schema::{CacheSet, Definition, Item, Layout, Lifetime, SourceOf, Update};
 
