@@ -41,8 +41,8 @@ abbrev pub OfTokens : List ℕ → (List Token → Type 0) → Type 0
 OfTokens text P = (tokens : List Token) → AreTokens text tokens → P tokens
 
 -- the text is read as these items
-abbrev pub Defines : List ℕ → List Item → Type 0
-Defines text items = OfTokens text (λ tokens. IsDefined tokens items)
+abbrev pub TextDefines : List ℕ → List Item → Type 0
+TextDefines text items = OfTokens text (λ tokens. IsDefined tokens items)
 
 -- the text has no reading, and this is its first fault, in this line
 pub record IsFaulty (text : List ℕ) (line : ℕ) (fault : DdlFault) : Type 0 where
@@ -54,7 +54,7 @@ pub record IsFaulty (text : List ℕ) (line : ℕ) (fault : DdlFault) : Type 0 w
 -- the text is read, and has an item that isn't served; that is told of the file's first byte
 pub record IsUnserved (text : List ℕ) (line : ℕ) (fault : DdlFault) : Type 0 where
   pub items : List Item
-  pub defined : Defines text items
+  pub defined : TextDefines text items
   pub unserved : AreServed items → ⊥
   pub first_line : line ≡ 1
   pub first_byte : fault ≡ Unsupported 0

@@ -14,7 +14,7 @@ use Rattle.dictd.specs.declared.status.Status.{Status}
 use Rattle.dictd.specs.declared.status.Status.TheVariants.{Done, Usage, DefsUnread, DefsRefused, ReadFault, WriteFault}
 use Rattle.dictd.specs.declared.status.Status.TheVariants.{LineTooLong, DefsTooLong, NoMemory}
 use Rattle.dictd.specs.CommandLine.{IsOnce}
-use Rattle.dictd.specs.Definitions.{AreServed, Defines, IsRefusedText, dictionaries_in}
+use Rattle.dictd.specs.Definitions.{AreServed, TextDefines, IsRefusedText, dictionaries_in}
 use Rattle.dictd.specs.Inputs.{EndsInput}
 use Rattle.dictd.specs.Loads.{Holding, LoadsEach, Ran}
 use Rattle.dictd.specs.Sessions.{Serves, ServesFront, State}
@@ -103,7 +103,7 @@ ServesRun ran opened before after DefsTooLong = ⊥
 
 -- a text's items, each of which is served, or the status that it ends the run with
 abbrev pub ReadsItems : List ℕ → Result (List Item) Status → Type 0
-ReadsItems text (Ok items) = Defines text items × AreServed items
+ReadsItems text (Ok items) = TextDefines text items × AreServed items
 ReadsItems text (Err (DefsRefused line fault)) = IsRefusedText text line fault
 ReadsItems text (Err NoMemory) = ⊤
 ReadsItems text (Err other) = ⊥
@@ -124,7 +124,7 @@ pub record RunsFile (words : List (List ℕ)) (file : List ℕ → Option (Optio
   pub text : List ℕ
   pub told : IsFile (file name) text
   pub items : List Item
-  pub defined : Defines text items
+  pub defined : TextDefines text items
   pub served : AreServed items
   pub folder : List ℕ
   pub in_folder : IsFolder name folder

@@ -2,7 +2,7 @@
 ghost use Rattle.std.specs.Prelude.{◌≡◌, ◌≢◌, ◌≤◌, ◌++◌, ◌∷◌, [], false, map, string_bytes, IfOk, IsErrOf, OnOk, All, length};
 ghost use Rattle.dict_io.specs.Outside.{HasCause, Rose, RoseWhere};
 ghost use Rattle.dict_schema.specs.Sound.{IsSoundItem};
-ghost use Rattle.dictd.specs.Definitions.{AreServed, Defines, IsRefusedText};
+ghost use Rattle.dictd.specs.Definitions.{AreServed, TextDefines, IsRefusedText};
 ghost use Rattle.dictd.specs.OneRun.{OnceRun, ReadsDefinitions, ReadsItems, ServesRun, opening, status_after};
 ghost use Rattle.dictd.specs.Sessions.{holding};
 ghost use Rattle.dictd.specs.Statuses.{Tells, status_text};
