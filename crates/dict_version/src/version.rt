@@ -64,7 +64,7 @@ fn cell_type(column: &ShapeColumn) -> AttrType
 }
 
 /// The types of the values of a row, in its order.
-fn cell_types(alloc: Global, d: &Definition) -> Result<ListOf<AttrType>, NoMemory>
+pub(crate) fn cell_types(alloc: Global, d: &Definition) -> Result<ListOf<AttrType>, NoMemory>
     ensures { IfOk result (λ types. types ≡ cell_types d.now) }
 {
     let columns = shape(alloc, d)?;
