@@ -104,3 +104,14 @@ taken-past [] (suc k) (suc count) low none = refl
 taken-past (x ∷ xs) zero count low none = absurd (none-some x (sym none))
 taken-past (x ∷ xs) (suc k) zero low none = absurd (omega (arith, low))
 taken-past (x ∷ xs) (suc k) (suc count) low none = ap (λ l. x ∷ l) (taken-past xs k count (omega (arith, low)) none)
+
+-- one pair more
+pub zip_more : {A B : Type 0} (R : A → B → Type 0) (xs : List A) (ys : List B) (i : ℕ) (x : A) (y : B) → slice_get xs i ≡ Some x
+    → AllZip R (take i xs) ys → R x y → AllZip R (take (i + 1) xs) (ys ++ y ∷ [])
+zip_more R [] ys i x y here all fits = absurd (none-some x here)
+zip_more R (z ∷ xs) [] zero x y here all fits = (subst (λ a. R a y) (sym (same_Some z x here)) fits, tt)
+zip_more R (z ∷ xs) (w ∷ ys) zero x y here all fits = absurd all
+zip_more R (z ∷ xs) [] (suc i) x y here all fits = absurd all
+zip_more R (z ∷ xs) (w ∷ ys) (suc i) x y here all fits =
+    let next : suc (i + 1) ≡ suc i + 1 = omega arith in
+    subst (λ n. AllZip R (take n (z ∷ xs)) (w ∷ (ys ++ y ∷ []))) next (all.0, zip_more R xs ys i x y here all.1 fits)

@@ -1,5 +1,5 @@
 // Versions of each layout: what they find, print and refuse.
-ghost use Rattle.std.specs.Prelude.{◌≡◌, ◌≤◌, All, IfOk, IsTrue, [], false, length};
+ghost use Rattle.std.specs.Prelude.{◌≡◌, ◌<◌, ◌≤◌, ◌∷◌, ◌++◌, All, IfOk, IsTrue, OnOk, Some, [], false, length, slice_get};
 ghost use Rattle.std.specs.List.{AllZip};
 ghost use Rattle.dict_schema.specs.Parts.{is_keyed_layout};
 ghost use Rattle.dict_schema.specs.Sound.{IsSound, IsSoundBase, IsSoundType};
@@ -150,13 +150,32 @@ fn push_row(
         return Err(NoMemory);
     }
     for place in 0..types.len() {
-        if !fits_column(&types[place], &value_of(alloc, &cells[place])?) {
-            return Err(NoMemory);
-        }
-        rows.push_cell(&cells[place])?;
+        push_fitting(alloc, rows, &types[place], &cells[place])?;
     }
     rows.end_row();
     Ok(())
+}
+
+/// Adds a cell that fits the type of its column.
+fn push_fitting(
+    alloc: Global,
+    rows: &mut RowsBuilder,
+    ty: &AttrType,
+    cell: &Cell<'static>,
+) -> Result<(), NoMemory>
+    requires room { length rows.old.open_row < length rows.old.types }
+    requires few { length rows.old.rows < 4294967295 }
+    requires typed { slice_get rows.old.types (length rows.old.open_row) ≡ Some ty.now }
+    ensures types { rows.new.types ≡ rows.old.types }
+    ensures rows { rows.new.rows ≡ rows.old.rows }
+    ensures open { OnOk result (rows.new.open_row ≡ rows.old.open_row ++ meaning cell.now ∷ []) }
+    ensures fits { OnOk result (FitsColumn ty.now (meaning cell.now)) }
+{
+    let value = value_of(alloc, cell)?;
+    if !fits_column(ty, &value) {
+        return Err(NoMemory);
+    }
+    rows.push_cell(cell)
 }
 
 /// The version of a sketch and some rows, or why there is none.
