@@ -91,10 +91,11 @@ module _ (d : Definition) (sound : IsSound d) where
   ]
 
   pub range_there : (start end : ℕ) → d.range ≡ range.Columns start end → (start < length d.columns) × (end < length d.columns)
-  range_there start end is =
-      (end_or start start end is (λ r.
-      let same : r.start ≡ start = cc (is, r.range) in
-      let low = slice_get_within d.columns r.start r.first r.found_first in subst (λ (k : ℕ). k < length d.columns) same low),
-      end_or end start end is (λ r.
-      let same : r.end ≡ end = cc (is, r.range) in
-      let low = slice_get_within d.columns r.end r.last r.found_last in subst (λ (k : ℕ). k < length d.columns) same low))
+  range_there start end is = (
+    end_or start start end is (λ r.
+        let same : r.start ≡ start = cc (is, r.range) in
+        let low = slice_get_within d.columns r.start r.first r.found_first in subst (λ (k : ℕ). k < length d.columns) same low),
+    end_or end start end is (λ r.
+        let same : r.end ≡ end = cc (is, r.range) in
+        let low = slice_get_within d.columns r.end r.last r.found_last in subst (λ (k : ℕ). k < length d.columns) same low),
+  )

@@ -71,12 +71,7 @@ pub(crate) fn texts_of(alloc: Global, rows: &Rows) -> Result<Vec<Bytes>, NoMemor
 }
 
 /// The first values of a row, so many.
-fn first_values(
-    alloc: Global,
-    rows: &Rows,
-    place: usize,
-    count: usize,
-) -> Result<KeyList, NoMemory>
+fn first_values(alloc: Global, rows: &Rows, place: usize, count: usize) -> Result<KeyList, NoMemory>
     ensures { IfOk result (λ values. (row : List ValueOf)
         → slice_get rows.now place ≡ Some row → values ≡ take count row) }
 {
@@ -154,18 +149,17 @@ fn parent_in(cell: Option<Cell<'_>>) -> Parent
 }
 
 /// The parent that each row names in this column.
-pub(crate) fn parents_at(
-    alloc: Global,
-    rows: &Rows,
-    column: u32,
-) -> Result<Vec<Parent>, NoMemory>
+pub(crate) fn parents_at(alloc: Global, rows: &Rows, column: u32) -> Result<Vec<Parent>, NoMemory>
     ensures { IfOk result (λ parents. parents.items ≡ map (λ row. parent_in (slice_get row column)) rows.now) }
 {
     let Ok(mut parents) = Vec::with_capacity(alloc, rows.len()) else {
         return Err(NoMemory);
     };
     for place in 0..rows.len() {
-        if parents.push(parent_in(rows.get(place, column as usize))).is_err() {
+        if parents
+            .push(parent_in(rows.get(place, column as usize)))
+            .is_err()
+        {
             return Err(NoMemory);
         }
     }

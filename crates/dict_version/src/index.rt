@@ -12,7 +12,6 @@ ghost use Rattle.dict_version.specs.Rows.{IsRefusedBy, IsRefusedFor, LayoutTakes
 ghost use Rattle.dict_version.specs.declared.fault.LayoutFault.TheVariants as fault;
 ghost use Rattle.dict_version.specs.declared.lookup.LookupBy.{LookupBy as LookupByOf};
 ghost use Rattle.dict_version.specs.declared.lookup.LookupBy.TheVariants as by;
-
 ghost use Rattle.dict_schema.specs.declared.definition.Strategy.{Strategy as StrategyOf};
 ghost use Rattle.range_layout.specs.FindByRange.{AreRowsWith, FindsByRange};
 ghost use Rattle.range_layout.specs.Kept.{AreFew, IsRangedOf};
@@ -74,11 +73,7 @@ fn numbers<S: Counter>(alloc: Global, rows: &Rows) -> Result<Index<S>, NoMemory>
 }
 
 /// The index of rows whose keys are lists of so many values.
-fn key_lists<S: Counter>(
-    alloc: Global,
-    d: &Definition,
-    rows: &Rows,
-) -> Result<Index<S>, NoMemory>
+fn key_lists<S: Counter>(alloc: Global, d: &Definition, rows: &Rows) -> Result<Index<S>, NoMemory>
     requires { length rows.now ≤ MOST_ROWS }
     ensures { IfOk result (IsIndexBy by.KeyList d.now rows.now) }
 {
@@ -141,11 +136,7 @@ fn find_at<S: Counter>(
 
 impl<S: Counter> Index<S> {
     /// The index that the layout of a definition wants.
-    pub(crate) fn build(
-        alloc: Global,
-        d: &Definition,
-        rows: &Rows,
-    ) -> Result<Index<S>, LayoutFault>
+    pub(crate) fn build(alloc: Global, d: &Definition, rows: &Rows) -> Result<Index<S>, LayoutFault>
         requires sound { IsSound d.now }
         requires kept { is_keyed_layout d.now.layout ≡ false }
         requires few { length rows.now ≤ MOST_ROWS }
@@ -201,9 +192,5 @@ pub(crate) fn hierarchy_of(
     };
     let numbers = numbers_of(alloc, rows)?;
     let parents = parents_at(alloc, rows, attribute_place(d, column))?;
-    Ok(Some(Hier::build(
-        alloc,
-        numbers.as_slice(),
-        parents.as_slice(),
-    )?))
+    Ok(Some(Hier::build(alloc, numbers.as_slice(), parents.as_slice())?))
 }

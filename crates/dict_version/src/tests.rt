@@ -15,7 +15,7 @@ use dict_schema::{
     is_keyed,
 };
 use dict_value::{
-    AttrType, Bytes, ColType, Format, KeyList, ListOf, MOST_ROWS, NoMemory, Row, Tally, Value,
+    AttrType, Bytes, ColType, Format, KeyList, ListOf, MOST_ROWS, NoMemory, Tally, Value,
     default_of, fits_column, same_value,
 };
 use packed_rows::{Cell, Rows, RowsBuilder, value_of};
@@ -118,11 +118,7 @@ fn has_sound_types(columns: &[Column]) -> bool
 }
 
 /// These rows in packed columns; one that doesn't fit its columns is no row.
-fn rows_of(
-    alloc: Global,
-    types: &[AttrType],
-    table: &[&[Cell<'static>]],
-) -> Result<Rows, NoMemory>
+fn rows_of(alloc: Global, types: &[AttrType], table: &[&[Cell<'static>]]) -> Result<Rows, NoMemory>
     ensures { IfOk result (All (AllZip FitsColumn types.now)) }
 {
     let mut rows = RowsBuilder::new(alloc, types)?;
@@ -359,7 +355,10 @@ static FINDINGS: [Finding; 6] = [
             (Asked::List(&[Cell::S(b""), Cell::U(5)]), Some(0)),
             (Asked::List(&[Cell::S(b"a"), Cell::U(5)]), None),
             (Asked::List(&[Cell::S(b"")]), None),
-            (Asked::List(&[Cell::S(b""), Cell::U(5), Cell::S(b"e")]), None),
+            (
+                Asked::List(&[Cell::S(b""), Cell::U(5), Cell::S(b"e")]),
+                None,
+            ),
             (Asked::Simple(5), None),
         ],
     },
@@ -525,44 +524,76 @@ static PRINTED: [[&str; 9]; 2] = [
     ],
 ];
 
+/// What is printed of a cell.
+fn printed_at(
+    alloc: Global,
+    version: &Version<Tally>,
+    place: u32,
+    column: u32,
+) -> Result<Bytes, Fail> {
+    if place >= version.row_count() || column as usize >= version.column_count() {
+        return Err("no cell".into());
+    }
+    let mut out = Bytes::new(alloc);
+    version.write_cell(place, column, &mut out)?;
+    Ok(out)
+}
+
 #[test]
 fn cells_are_printed_where_they_lie(rt: HostRuntime) -> Result<(), Fail> {
     let alloc = rt.alloc();
     let Ok(version) = version_of(alloc, &TYPED, TYPED_ROWS)? else {
         return Err("no version".into());
     };
-    let mut out = Bytes::new(alloc);
-    for place in 0..version.row_count() {
-        for column in 0..9 {
-            out.clear();
-            version.write_cell(place, column, &mut out)?;
-            let wanted = PRINTED[place as usize][column as usize];
-            assert_eq!(rt; out.as_slice(), wanted.as_bytes(), "at {place} and {column}");
+    for (place, texts) in PRINTED.iter().enumerate() {
+        for (column, wanted) in texts.iter().enumerate() {
+            let out = printed_at(alloc, &version, place as u32, column as u32)?;
+            assert_eq!(rt;
+                out.as_slice(),
+                wanted.as_bytes(),
+                "at {place} and {column}"
+            );
         }
     }
     Ok(())
 }
 
+/// The rows of a first load.
+const FIRST: &[&[Cell<'static>]] = &[&[Cell::U(1), Cell::S(b"a")], &[Cell::U(2), Cell::S(b"b")]];
+
 #[test]
 fn a_version_is_its_parts(rt: HostRuntime) -> Result<(), Fail> {
-    let alloc = rt.alloc();
-    let rows: [&[Cell<'static>]; 2] = [&[Cell::U(1), Cell::S(b"a")], &[Cell::U(2), Cell::S(b"b")]];
-    let Ok(version) = version_of(alloc, &FLAT, &rows)? else {
+    let Ok(version) = version_of(rt.alloc(), &FLAT, FIRST)? else {
         return Err("no version".into());
     };
     assert_eq!(rt; version.moment(), 0);
     let version = version.stamp(100);
     assert_eq!(rt; version.moment(), 100);
     assert_eq!(rt; version.row_count(), 2);
+    assert_eq!(rt; version.column_count(), 2);
     assert_eq!(rt; version.stored(), 34);
     assert_eq!(rt; version.definition().name.as_slice(), b"d".as_slice());
     assert!(rt; version.hier().is_none());
-    let row = version.row(alloc, 1)?;
-    let wanted = values_of(alloc, rows[1])?;
-    assert_eq!(rt; row.len(), 2);
-    for (value, wanted) in row.as_slice().iter().zip(wanted.as_slice()) {
-        assert!(rt; same_value(value, wanted));
+    Ok(())
+}
+
+/// Whether two lists of values are one.
+fn same_values(a: &[Value], b: &[Value]) -> bool {
+    a.len() == b.len() && a.iter().zip(b).all(|(a, b)| same_value(a, b))
+}
+
+#[test]
+fn rows_and_values_are_copied(rt: HostRuntime) -> Result<(), Fail> {
+    let alloc = rt.alloc();
+    let Ok(version) = version_of(alloc, &FLAT, FIRST)? else {
+        return Err("no version".into());
+    };
+    if version.row_count() != 2 || version.column_count() != 2 {
+        return Err("not the rows".into());
     }
+    let row = version.row(alloc, 1)?;
+    let wanted = values_of(alloc, &[Cell::U(2), Cell::S(b"b")])?;
+    assert!(rt; same_values(row.as_slice(), wanted.as_slice()));
     let value = version.value(alloc, 0, 1)?;
     assert!(rt; same_value(&value, &Value::S(Bytes::copy_of(alloc, b"a")?)));
     Ok(())

@@ -127,6 +127,13 @@ impl<S: Counter> Version<S> {
         self.rows.len() as u32
     }
 
+    /// How many columns each row has.
+    pub fn column_count(&self) -> usize
+        ensures { result ≡ length (shape_of self.now.definition) }
+    {
+        self.types.len()
+    }
+
     /// How many bytes the rows take: for each column its cells and, where it may hold NULL, a bit for each row; and
     /// all texts once. At most the greatest number of 64 bits is told.
     pub fn stored(&self) -> u64

@@ -32,10 +32,10 @@ impl Model for Schedule {
     ghost Value = { Timing };
 
     ghost view = { λ it. record {
-        lifetime = it.lifetime;
-        words = it.words;
-        deadline = it.deadline;
-        failures = it.failures;
+      lifetime = it.lifetime;
+      words = it.words;
+      deadline = it.deadline;
+      failures = it.failures;
     } };
 
     ghost invariant = { λ it. (it.lifetime.min ≤ it.lifetime.max) × (it.failures ≤ 7) };

@@ -14,6 +14,6 @@ loop-place-preserved c =
       place = omega (arith, long, so_far.place);
       same = pushed.rows ∙ so_far.same;
       fit = rw pushed.open
-      (zip_more FitsColumn c.args.types.now c.loop-place.rows.open_row c.loop-place.place _ _
-      (slice_get-get_or c.args.types.now c.loop-place.place _ (omega arith)) so_far.fit pushed.fits);
+          (zip_more FitsColumn c.args.types.now c.loop-place.rows.open_row c.loop-place.place _ _
+          (slice_get-get_or c.args.types.now c.loop-place.place _ (omega arith)) so_far.fit pushed.fits);
     }
