@@ -1,5 +1,6 @@
 // Versions of each layout: what they find, print and refuse.
-ghost use Rattle.std.specs.Prelude.{◌≡◌, ◌<◌, ◌≤◌, ◌∷◌, ◌++◌, All, IfOk, IsTrue, OnOk, Some, [], false, length, slice_get};
+ghost use Rattle.std.specs.Prelude.{◌≡◌, ◌<◌, ◌≤◌, ◌∷◌, ◌++◌, All, IfOk, IsTrue, OnOk, Some, [], false, length};
+ghost use Rattle.std.specs.Prelude.{slice_get};
 ghost use Rattle.std.specs.List.{AllZip};
 ghost use Rattle.dict_schema.specs.Parts.{is_keyed_layout};
 ghost use Rattle.dict_schema.specs.Sound.{IsSound, IsSoundBase, IsSoundType};

@@ -1,5 +1,6 @@
 // A version: a definition, its rows, and the index that its layout wants.
-ghost use Rattle.std.specs.Prelude.{◌≡◌, ◌++◌, ◌<◌, ◌≤◌, ℕ, List, Err, false, Some, None, IfErr, IfOk, IfSome, MatchOption};
+ghost use Rattle.std.specs.Prelude.{◌≡◌, ◌++◌, ◌<◌, ◌≤◌, ℕ, List, Err, false, Some, None, IfErr, IfOk, IfSome};
+ghost use Rattle.std.specs.Prelude.{MatchOption};
 ghost use Rattle.std.specs.Prelude.{OnErr, OnOk, length, min, slice_get};
 ghost use Rattle.dict_schema.specs.Parts.{is_keyed_layout};
 ghost use Rattle.dict_schema.specs.Shapes.{cell_types, shape_of};
