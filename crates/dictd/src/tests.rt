@@ -12,7 +12,8 @@ use std::process::Abort;
 use std::test::Fail;
 
 const ROW: &[u8] =
-    b"CREATE DICTIONARY d (id UInt64, x String DEFAULT '') PRIMARY KEY id SOURCE(EXECUTABLE(command 'c' format 'TabSeparated')) LAYOUT(FLAT()) LIFETIME(0);";
+    b"CREATE DICTIONARY d (id UInt64, x String DEFAULT '') PRIMARY KEY id SOURCE(EXECUTABLE(command 'c' format \
+        'TabSeparated')) LAYOUT(FLAT()) LIFETIME(0);";
 
 /// How a child of a case behaves.
 #[derive(Clone, Copy)]
@@ -146,7 +147,8 @@ fn lookups_are_answered_from_the_child(rt: HostRuntime) -> Result<(), Fail> {
             ..FIRST
         },
         Case {
-            input: b"dictGet\td\tx\t000000000000000000001\ndictGet\td\tx\t18446744073709551616\ndictGet\td\tx\t18446744073709551615\n",
+            input: b"dictGet\td\tx\t000000000000000000001\ndictGet\td\tx\t18446744073709551616\n\
+                dictGet\td\tx\t18446744073709551615\n",
             out: b"ERR\t1\nERR\t1\nOK\tv1\t\n",
             ..FIRST
         },
@@ -281,13 +283,16 @@ fn filed(
 fn values_are_printed_by_their_type(rt: HostRuntime) -> Result<(), Fail> {
     let cases = [
         filed(
-            b"CREATE DICTIONARY d (id UInt64, s String DEFAULT 'q', m Nullable(String)) PRIMARY KEY id SOURCE(EXECUTABLE(command 'c' format 'TabSeparated')) LAYOUT(FLAT()) LIFETIME(0);",
+            b"CREATE DICTIONARY d (id UInt64, s String DEFAULT 'q', m Nullable(String)) PRIMARY KEY id \
+                SOURCE(EXECUTABLE(command 'c' format 'TabSeparated')) LAYOUT(FLAT()) LIFETIME(0);",
             &[(b"1\ta\\tb\t\\N\n2\t\\N\t\\x41\n", Ends::With(0))],
-            b"dictGet\td\ts\t1\ndictGet\td\tm\t1\ndictGet\td\ts\t2\ndictGet\td\tm\t2\ndictGet\td\ts\t3\ndictGet\td\tm\t3\ndictGet\td\tid\t1\n",
+            b"dictGet\td\ts\t1\ndictGet\td\tm\t1\ndictGet\td\ts\t2\ndictGet\td\tm\t2\ndictGet\td\ts\t3\n\
+                dictGet\td\tm\t3\ndictGet\td\tid\t1\n",
             b"OK\tv1\ta\\tb\nOK\tv1\t\\N\nOK\tv1\tq\nOK\tv1\tA\nOK\tv1\tq\nOK\tv1\t\\N\nERR\t1\n",
         ),
         filed(
-            b"CREATE DICTIONARY d (id UInt64, x String DEFAULT '') PRIMARY KEY id SOURCE(EXECUTABLE(command 'c' format CSV)) LAYOUT(FLAT()) LIFETIME(0);",
+            b"CREATE DICTIONARY d (id UInt64, x String DEFAULT '') PRIMARY KEY id SOURCE(EXECUTABLE(command 'c' \
+                format CSV)) LAYOUT(FLAT()) LIFETIME(0);",
             &[
                 (b"1,\"a\nb\"\"c\"\r\n\r\n2,z\n", Ends::With(0)),
                 (b"1,\"a\nb\"\"c\"\r\n\r\nz,z\n", Ends::With(0)),
@@ -296,7 +301,8 @@ fn values_are_printed_by_their_type(rt: HostRuntime) -> Result<(), Fail> {
             b"OK\tv1\ta\\nb\"c\nOK\tv1\tz\nERR\t7\n",
         ),
         filed(
-            b"CREATE DICTIONARY d (id UInt64, t Date, u DateTime, p Decimal(5, 2), g IPv6) PRIMARY KEY id SOURCE(EXECUTABLE(command 'c' format 'TabSeparated')) LAYOUT(FLAT()) LIFETIME(0);",
+            b"CREATE DICTIONARY d (id UInt64, t Date, u DateTime, p Decimal(5, 2), g IPv6) PRIMARY KEY id \
+                SOURCE(EXECUTABLE(command 'c' format 'TabSeparated')) LAYOUT(FLAT()) LIFETIME(0);",
             &[
                 (
                     b"1\t2149-06-06\t2106-02-07 06:28:15\t-1.50\t2001:DB8:0:0:0:0:0:1\n",
@@ -308,10 +314,12 @@ fn values_are_printed_by_their_type(rt: HostRuntime) -> Result<(), Fail> {
                 ),
             ],
             b"dictGet\td\tt\t1\ndictGet\td\tu\t1\ndictGet\td\tp\t1\ndictGet\td\tg\t1\ndictGet\td\tp\t2\nreload\td\n",
-            b"OK\tv1\t2149-06-06\nOK\tv1\t2106-02-07 06:28:15\nOK\tv1\t-1.5\nOK\tv1\t2001:db8::1\nOK\tv1\t0\nERR\t7\n",
+            b"OK\tv1\t2149-06-06\nOK\tv1\t2106-02-07 06:28:15\nOK\tv1\t-1.5\nOK\tv1\t2001:db8::1\nOK\tv1\t0\n\
+                ERR\t7\n",
         ),
         filed(
-            b"CREATE DICTIONARY d (a UInt8 DEFAULT 3, id UInt64, u UUID, i Int16, v IPv4) PRIMARY KEY id SOURCE(EXECUTABLE(command 'c' format 'TSV')) LAYOUT(FLAT())",
+            b"CREATE DICTIONARY d (a UInt8 DEFAULT 3, id UInt64, u UUID, i Int16, v IPv4) PRIMARY KEY id \
+                SOURCE(EXECUTABLE(command 'c' format 'TSV')) LAYOUT(FLAT())",
             &[(
                 b"1\t7\t550E8400-E29B-41D4-A716-446655440000\t-5\t1.2.3.4\n",
                 Ends::With(0),
@@ -333,7 +341,10 @@ fn values_are_printed_by_their_type(rt: HostRuntime) -> Result<(), Fail> {
 }
 
 const TWO: &[u8] =
-    b"-- two of them\nCREATE DICTIONARY d (id UInt64, x String) PRIMARY KEY id SOURCE(EXECUTABLE(command 'c' format TSV)) LAYOUT(FLAT());\nCREATE DICTIONARY db.e (id UInt64, y UInt8) PRIMARY KEY id SOURCE(EXECUTABLE(command 'p w' format CSV execute_direct 1)) LAYOUT(FLAT(MAX_ARRAY_SIZE 5)) SETTINGS(max_output_bytes = 8) COMMENT 'it''s';\n";
+    b"-- two of them\nCREATE DICTIONARY d (id UInt64, x String) PRIMARY KEY id SOURCE(EXECUTABLE(command 'c' \
+        format TSV)) LAYOUT(FLAT());\nCREATE DICTIONARY db.e (id UInt64, y UInt8) PRIMARY KEY id \
+        SOURCE(EXECUTABLE(command 'p w' format CSV execute_direct 1)) LAYOUT(FLAT(MAX_ARRAY_SIZE 5)) \
+        SETTINGS(max_output_bytes = 8) COMMENT 'it''s';\n";
 
 #[test]
 fn dictionaries_load_in_their_order_and_answer_apart(rt: HostRuntime) -> Result<(), Fail> {
@@ -345,7 +356,8 @@ fn dictionaries_load_in_their_order_and_answer_apart(rt: HostRuntime) -> Result<
                 (b"1,2\n", Ends::With(0)),
                 (b"1,3\n", Ends::With(0)),
             ],
-            b"dictGet\td\tx\t1\ndictGet\tdb.e\ty\t1\nreload\tdb.e\ndictGet\tdb.e\ty\t1\ndictGet\td\tx\t1\ndictGet\td\ty\t1\ndictGet\tdb\ty\t1\n",
+            b"dictGet\td\tx\t1\ndictGet\tdb.e\ty\t1\nreload\tdb.e\ndictGet\tdb.e\ty\t1\ndictGet\td\tx\t1\n\
+                dictGet\td\ty\t1\ndictGet\tdb\ty\t1\n",
             b"OK\tv1\ta\nOK\tv1\t2\nOK\tv2\nOK\tv2\t3\nOK\tv1\ta\nERR\t1\nERR\t1\n",
         ),
         filed(
@@ -373,7 +385,12 @@ fn dictionaries_load_in_their_order_and_answer_apart(rt: HostRuntime) -> Result<
             TWO,
             &[],
             b"show\tdb.e\nshow\tno\nreload\tno\nquit\n",
-            b"OK\tshow\tCREATE DICTIONARY `db.e` (`id` UInt64, `y` UInt8 DEFAULT 0) PRIMARY KEY `id` SOURCE(EXECUTABLE(command \\'p w\\' format \\'CSV\\' execute_direct 1 implicit_key 0 send_chunk_header 0 command_read_timeout 10000 command_write_timeout 10000 command_termination_timeout 10)) LAYOUT(FLAT(INITIAL_ARRAY_SIZE 1024 MAX_ARRAY_SIZE 5)) LIFETIME(MIN 0 MAX 0) SETTINGS(max_output_bytes = 8) COMMENT \\'it\\\\\\'s\\'\nERR\t2\nERR\t1\nERR\t1\n",
+            b"OK\tshow\tCREATE DICTIONARY `db.e` (`id` UInt64, `y` UInt8 DEFAULT 0) PRIMARY KEY `id` \
+                SOURCE(EXECUTABLE(command \\'p w\\' format \\'CSV\\' execute_direct 1 implicit_key 0 \
+                send_chunk_header 0 command_read_timeout 10000 command_write_timeout 10000 \
+                command_termination_timeout 10)) LAYOUT(FLAT(INITIAL_ARRAY_SIZE 1024 MAX_ARRAY_SIZE 5)) \
+                LIFETIME(MIN 0 MAX 0) SETTINGS(max_output_bytes = 8) COMMENT \\'it\\\\\\'s\\'\nERR\t2\nERR\t1\n\
+                ERR\t1\n",
         ),
         filed(
             b"",
@@ -385,7 +402,11 @@ fn dictionaries_load_in_their_order_and_answer_apart(rt: HostRuntime) -> Result<
             ROW,
             FIRST.children,
             b"show\td\n",
-            b"OK\tshow\tCREATE DICTIONARY `d` (`id` UInt64, `x` String DEFAULT \\'\\') PRIMARY KEY `id` SOURCE(EXECUTABLE(command \\'c\\' format \\'TabSeparated\\' execute_direct 0 implicit_key 0 send_chunk_header 0 command_read_timeout 10000 command_write_timeout 10000 command_termination_timeout 10)) LAYOUT(FLAT(INITIAL_ARRAY_SIZE 1024 MAX_ARRAY_SIZE 500000)) LIFETIME(MIN 0 MAX 0) SETTINGS(max_output_bytes = 67108864)\n",
+            b"OK\tshow\tCREATE DICTIONARY `d` (`id` UInt64, `x` String DEFAULT \\'\\') PRIMARY KEY `id` \
+                SOURCE(EXECUTABLE(command \\'c\\' format \\'TabSeparated\\' execute_direct 0 implicit_key 0 \
+                send_chunk_header 0 command_read_timeout 10000 command_write_timeout 10000 \
+                command_termination_timeout 10)) LAYOUT(FLAT(INITIAL_ARRAY_SIZE 1024 MAX_ARRAY_SIZE 500000)) \
+                LIFETIME(MIN 0 MAX 0) SETTINGS(max_output_bytes = 67108864)\n",
         ),
     ];
     for case in &cases {
@@ -423,7 +444,8 @@ fn faults_of_a_file_are_told(rt: HostRuntime) -> Result<(), Fail> {
             b"definitions line 4 byte 42: unsupported\n",
         ),
         refused(
-            b"\nCREATE DICTIONARY d (id UInt64, x String) PRIMARY KEY id SOURCE(EXECUTABLE(command ' ' format TSV)) LAYOUT(FLAT)",
+            b"\nCREATE DICTIONARY d (id UInt64, x String) PRIMARY KEY id SOURCE(EXECUTABLE(command ' ' format \
+                TSV)) LAYOUT(FLAT)",
             2,
             DdlFault::Def(1, DefFault::Command),
             b"definitions line 2 byte 1: command\n",
@@ -435,13 +457,15 @@ fn faults_of_a_file_are_told(rt: HostRuntime) -> Result<(), Fail> {
             b"definitions line 1 byte 6: unexpected\n",
         ),
         refused(
-            b"CREATE DICTIONARY d (id UInt64, x String) PRIMARY KEY id SOURCE(EXECUTABLE(command 'c' format TSV)) LAYOUT(HASHED)",
+            b"CREATE DICTIONARY d (id UInt64, x String) PRIMARY KEY id SOURCE(EXECUTABLE(command 'c' format \
+                TSV)) LAYOUT(HASHED)",
             1,
             unsupported,
             unbuilt,
         ),
         refused(
-            b"CREATE DICTIONARY d (id UInt64, x String) PRIMARY KEY id SOURCE(EXECUTABLE(command 'c' format TSV)) LAYOUT(DIRECT)",
+            b"CREATE DICTIONARY d (id UInt64, x String) PRIMARY KEY id SOURCE(EXECUTABLE(command 'c' format \
+                TSV)) LAYOUT(DIRECT)",
             1,
             unsupported,
             unbuilt,
