@@ -221,6 +221,12 @@ fn key_of(alloc: Global, asked: Asked) -> Result<Key, NoMemory> {
     })
 }
 
+/// A definition and its rows.
+struct Table {
+    sketch: Sketch,
+    rows: &'static [&'static [Cell<'static>]],
+}
+
 /// A definition, its rows, and the places that keys find.
 struct Finding {
     sketch: Sketch,
@@ -474,30 +480,33 @@ const TYPED: Sketch = Sketch {
     ..HASHED
 };
 
-const TYPED_ROWS: &[&[Cell<'static>]] = &[
-    &[
-        Cell::U(1),
-        Cell::Day(65_535),
-        Cell::Second(4_294_967_295),
-        Cell::Dec(-150),
-        Cell::V6(0x2001_0db8 << 96 | 1),
-        Cell::S(b"a\tb\\'"),
-        Cell::Id(0x6120_0000_0000_4000_8000_0000_0000_00ff),
-        Cell::V4(0x0102_03ff),
-        Cell::I(-128),
+static TYPED_TABLE: Table = Table {
+    sketch: TYPED,
+    rows: &[
+        &[
+            Cell::U(1),
+            Cell::Day(65_535),
+            Cell::Second(4_294_967_295),
+            Cell::Dec(-150),
+            Cell::V6(0x2001_0db8 << 96 | 1),
+            Cell::S(b"a\tb\\'"),
+            Cell::Id(0x6120_0000_0000_4000_8000_0000_0000_00ff),
+            Cell::V4(0x0102_03ff),
+            Cell::I(-128),
+        ],
+        &[
+            Cell::U(2),
+            Cell::Day(0),
+            Cell::Second(0),
+            Cell::Dec(7),
+            Cell::V6(0xffff << 32 | 1),
+            Cell::Null,
+            Cell::Id(0),
+            Cell::V4(0),
+            Cell::I(0),
+        ],
     ],
-    &[
-        Cell::U(2),
-        Cell::Day(0),
-        Cell::Second(0),
-        Cell::Dec(7),
-        Cell::V6(0xffff << 32 | 1),
-        Cell::Null,
-        Cell::Id(0),
-        Cell::V4(0),
-        Cell::I(0),
-    ],
-];
+};
 
 /// The texts of their cells, row by row.
 static PRINTED: [[&str; 9]; 2] = [
@@ -543,7 +552,7 @@ fn printed_at(
 #[test]
 fn cells_are_printed_where_they_lie(rt: HostRuntime) -> Result<(), Fail> {
     let alloc = rt.alloc();
-    let Ok(version) = version_of(alloc, &TYPED, TYPED_ROWS)? else {
+    let Ok(version) = version_of(alloc, &TYPED_TABLE.sketch, TYPED_TABLE.rows)? else {
         return Err("no version".into());
     };
     for (place, texts) in PRINTED.iter().enumerate() {
@@ -560,11 +569,14 @@ fn cells_are_printed_where_they_lie(rt: HostRuntime) -> Result<(), Fail> {
 }
 
 /// The rows of a first load.
-const FIRST: &[&[Cell<'static>]] = &[&[Cell::U(1), Cell::S(b"a")], &[Cell::U(2), Cell::S(b"b")]];
+static FIRST: Table = Table {
+    sketch: FLAT,
+    rows: &[&[Cell::U(1), Cell::S(b"a")], &[Cell::U(2), Cell::S(b"b")]],
+};
 
 #[test]
 fn a_version_is_its_parts(rt: HostRuntime) -> Result<(), Fail> {
-    let Ok(version) = version_of(rt.alloc(), &FLAT, FIRST)? else {
+    let Ok(version) = version_of(rt.alloc(), &FIRST.sketch, FIRST.rows)? else {
         return Err("no version".into());
     };
     assert_eq!(rt; version.moment(), 0);
@@ -578,15 +590,10 @@ fn a_version_is_its_parts(rt: HostRuntime) -> Result<(), Fail> {
     Ok(())
 }
 
-/// Whether two lists of values are one.
-fn same_values(a: &[Value], b: &[Value]) -> bool {
-    a.len() == b.len() && a.iter().zip(b).all(|(a, b)| same_value(a, b))
-}
-
 #[test]
 fn rows_and_values_are_copied(rt: HostRuntime) -> Result<(), Fail> {
     let alloc = rt.alloc();
-    let Ok(version) = version_of(alloc, &FLAT, FIRST)? else {
+    let Ok(version) = version_of(alloc, &FIRST.sketch, FIRST.rows)? else {
         return Err("no version".into());
     };
     if version.row_count() != 2 || version.column_count() != 2 {
@@ -594,25 +601,31 @@ fn rows_and_values_are_copied(rt: HostRuntime) -> Result<(), Fail> {
     }
     let row = version.row(alloc, 1)?;
     let wanted = values_of(alloc, &[Cell::U(2), Cell::S(b"b")])?;
-    assert!(rt; same_values(row.as_slice(), wanted.as_slice()));
+    assert_eq!(rt; row.len(), wanted.len());
+    for (value, wanted) in row.as_slice().iter().zip(wanted.as_slice()) {
+        assert!(rt; same_value(value, wanted));
+    }
     let value = version.value(alloc, 0, 1)?;
     assert!(rt; same_value(&value, &Value::S(Bytes::copy_of(alloc, b"a")?)));
     Ok(())
 }
 
-const TREE: &[&[Cell<'static>]] = &[
-    &[Cell::U(1), Cell::U(0)],
-    &[Cell::U(2), Cell::U(1)],
-    &[Cell::U(3), Cell::U(1)],
-    &[Cell::U(4), Cell::U(2)],
-    &[Cell::U(5), Cell::U(6)],
-    &[Cell::U(6), Cell::U(5)],
-];
+static TREE: Table = Table {
+    sketch: HIERARCHY,
+    rows: &[
+        &[Cell::U(1), Cell::U(0)],
+        &[Cell::U(2), Cell::U(1)],
+        &[Cell::U(3), Cell::U(1)],
+        &[Cell::U(4), Cell::U(2)],
+        &[Cell::U(5), Cell::U(6)],
+        &[Cell::U(6), Cell::U(5)],
+    ],
+};
 
 #[test]
 fn keys_name_their_parents(rt: HostRuntime) -> Result<(), Fail> {
     let alloc = rt.alloc();
-    let Ok(version) = version_of(alloc, &HIERARCHY, TREE)? else {
+    let Ok(version) = version_of(alloc, &TREE.sketch, TREE.rows)? else {
         return Err("no version".into());
     };
     let Some(hier) = version.hier() else {

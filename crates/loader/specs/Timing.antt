@@ -1,5 +1,6 @@
 -- When a dictionary is loaded again: by its lifetime after a published load, and by rising waits after failed ones.
-use Rattle.std.specs.Prelude.{◌≡◌, ◌+◌, ◌-◌, ◌*◌, ◌%◌, ◌^◌, ◌==◌, ◌&&◌, ◌≤◌, ℕ, Bool, Option, Some, None, min, if◌then◌else◌}
+use Rattle.std.specs.Prelude.{◌≡◌, ◌+◌, ◌-◌, ◌*◌, ◌%◌, ◌^◌, ◌==◌, ◌&&◌, ◌≤◌, ℕ, Bool, Option, Some, None, min}
+use Rattle.std.specs.Prelude.{if◌then◌else◌}
 use Rattle.dict_schema.specs.declared.definition.Lifetime.{Lifetime}
 use Rattle.rand_pcg.specs.Lcg.{Lcg, increment_of, started}
 use Rattle.rand_pcg.specs.Pcg.{multiplier_64, pcg32}
@@ -12,14 +13,14 @@ pub record Timing : Type 0 where
   pub deadline : Option ℕ
   pub failures : ℕ
 
--- the words of the item with this number, from 0 in the definitions file
-abbrev pub words_of : ℕ → ℕ → Lcg
-words_of seed number = started 64 multiplier_64 seed (increment_of 64 number)
+-- the generator of the item with this number, from 0 in the definitions file
+abbrev pub generator_of : ℕ → ℕ → Lcg
+generator_of seed number = started 64 multiplier_64 seed (increment_of 64 number)
 
 -- before the first load none is due
 abbrev pub never_loaded : Lifetime → ℕ → ℕ → Timing
 never_loaded lifetime seed number =
-    record { lifetime = lifetime; words = words_of seed number; deadline = None; failures = 0 }
+    record { lifetime = lifetime; words = generator_of seed number; deadline = None; failures = 0 }
 
 -- LIFETIME(0): what was published stays
 abbrev pub stays : Lifetime → Bool
