@@ -1,0 +1,49 @@
+-- What a lookup asks for, and of which attribute.
+use Rattle.std.specs.Prelude.{◌≡◌, ◌≢◌, ◌≤◌, ◌∷◌, ◌++◌, [], ℕ, List, Bool, true, false, Some, IsTrue, length, slice_get}
+use Rattle.std.specs.List.{flat_map}
+use Rattle.dict_schema.specs.Parts.{is_attribute}
+use Rattle.dict_schema.specs.declared.definition.Column.{Column}
+use Rattle.dict_schema.specs.declared.definition.Definition.{Definition}
+use Rattle.dict_value.specs.declared.letters.TheConstants.{LINE_FEED}
+use Rattle.wire_text.specs.Requests.{IsRequest}
+use Rattle.wire_text.specs.declared.lines.TheConstants.{MOST_BLOCK_BYTES, MOST_BLOCK_LINES}
+use Rattle.wire_text.specs.declared.request.Asked.{Asked}
+use Rattle.wire_text.specs.declared.request.Request.TheVariants as request
+use Rattle.wire_text.specs.declared.request.Verb.{Verb}
+use Rattle.wire_text.specs.declared.request.Verb.TheVariants as verb
+
+-- some lines within the bounds of a block ask this
+pub record IsAsked (q : Asked) : Type 0 where
+  pub first : List ℕ
+  pub more : List (List ℕ)
+  pub reads : IsRequest first more (request.Asked q)
+  pub few : length more ≤ MOST_BLOCK_LINES
+  pub small : length (flat_map (λ line. line ++ LINE_FEED ∷ []) more) ≤ MOST_BLOCK_BYTES
+
+-- a lookup in a dictionary, and a call of a function
+abbrev pub IsLookup : Asked → Type 0
+IsLookup q = IsAsked q × (q.verb ≢ verb.Call)
+
+abbrev pub IsCall : Asked → Type 0
+IsCall q = IsAsked q × (q.verb ≡ verb.Call)
+
+-- whether a verb asks for a hierarchy
+abbrev pub asks_hierarchy : Verb → Bool
+asks_hierarchy verb.Hierarchy = true
+asks_hierarchy verb.IsIn = true
+asks_hierarchy verb.Children = true
+asks_hierarchy verb.Descendants = true
+asks_hierarchy _ = false
+
+-- whether a verb asks for an attribute
+abbrev pub asks_attribute : Verb → Bool
+asks_attribute verb.Get = true
+asks_attribute verb.GetOrDefault = true
+asks_attribute verb.GetOrNull = true
+asks_attribute _ = false
+
+-- the column at this place of the definition is the attribute of a name; key and range columns are none
+pub record IsAttributeNamed (d : Definition) (name : List ℕ) (place : ℕ) (column : Column) : Type 0 where
+  pub here : slice_get d.columns place ≡ Some column
+  pub named : column.name ≡ name
+  pub attribute : IsTrue (is_attribute d place)

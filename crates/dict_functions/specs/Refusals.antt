@@ -1,0 +1,90 @@
+-- Why a lookup or a call is refused: the first reason in this order.
+use Rattle.std.specs.Prelude.{◌≡◌, ◌≢◌, ◌<◌, ◌∷◌, ◌++◌, ℕ, List, All, Bool, true, false, None, Ok, IsTrue, length, map}
+use Rattle.cache_layout.specs.Fetching.{key_types, written_row}
+use Rattle.cache_layout.specs.declared.fetch.TheConstants.{MOST_KEY_BYTES}
+use Rattle.dict_schema.specs.declared.definition.Column.{Column}
+use Rattle.dict_schema.specs.declared.definition.Definition.{Definition}
+use Rattle.dict_schema.specs.declared.definition.FunctionDef.{FunctionDef}
+use Rattle.dict_value.specs.Values.{reading}
+use Rattle.dict_value.specs.declared.value.AttrType.{AttrType}
+use Rattle.dict_value.specs.declared.value.Field.{Field}
+use Rattle.dict_value.specs.declared.value.Format.{Format}
+use Rattle.dict_value.specs.declared.value.Value.{Value}
+use Rattle.dict_version.specs.Keys.{parent_column}
+use Rattle.dict_version.specs.declared.key.Key.{Key}
+use Rattle.wire_text.specs.declared.reply.ReplyFault.{ReplyFault}
+use Rattle.wire_text.specs.declared.reply.ReplyFault.TheVariants as fault
+use Rattle.wire_text.specs.declared.request.Asked.{Asked}
+use Rattle.wire_text.specs.declared.request.Verb.TheVariants as verb
+use Rattle.dict_functions.specs.Asking.{IsAttributeNamed, asks_attribute, asks_hierarchy}
+use Rattle.dict_functions.specs.Keys.{IsFirstWithout, ReadsAs, ReadsKey, ReadsNumbers}
+
+-- a hierarchy is asked for, and there is none
+abbrev pub LacksHierarchy : Definition → Asked → Type 0
+LacksHierarchy d q = IsTrue (asks_hierarchy q.verb) × (parent_column d ≡ None)
+
+-- an attribute is asked for, and the name is none's
+abbrev pub LacksAttribute : Definition → Asked → Type 0
+LacksAttribute d q =
+    IsTrue (asks_attribute q.verb)
+    × ((place : ℕ) (column : Column) → ¬ (IsAttributeNamed d q.attribute place column))
+
+-- a default is given that is no value of the attribute
+abbrev pub HasBadDefault : Definition → Asked → Type 0
+HasBadDefault d q =
+    (q.verb ≡ verb.GetOrDefault)
+    × ((place : ℕ) × (column : Column) × IsAttributeNamed d q.attribute place column
+    × ((v : Value) → reading column.ty q.fallback ≢ Ok v))
+
+-- the verb, the attribute and the default fit the definition
+pub record IsFitting (d : Definition) (q : Asked) : Type 0 where
+  pub hierarchy : ¬ (LacksHierarchy d q)
+  pub attribute : ¬ (LacksAttribute d q)
+  pub default : ¬ (HasBadDefault d q)
+
+-- the same is refused: no hierarchy, then no attribute, then a bad default
+pub data IsUnfitting (d : Definition) (q : Asked) : ReplyFault → Type 0 where
+  hierarchy : LacksHierarchy d q → IsUnfitting d q fault.WrongLayout
+  attribute : ¬ (LacksHierarchy d q) → LacksAttribute d q → IsUnfitting d q fault.UnknownAttribute
+  default : ¬ (LacksHierarchy d q) → ¬ (LacksAttribute d q) → HasBadDefault d q
+      → IsUnfitting d q (fault.BadArgument 0)
+
+-- the fields of a line write what the verb asks by: numbers for a hierarchy, else a key
+abbrev pub HasKey : Definition → Bool → List Field → Type 0
+HasKey d true fields = (numbers : List ℕ) × ReadsNumbers fields numbers
+HasKey d false fields = (key : Key) × ReadsKey d fields key
+
+-- why a lookup in a version is refused: it doesn't fit, or else a line has no key
+pub data IsRefusal (d : Definition) (q : Asked) : ReplyFault → Type 0 where
+  unfitting : {f : ReplyFault} → IsUnfitting d q f → IsRefusal d q f
+  key : {line : ℕ} → IsFitting d q → IsFirstWithout (HasKey d (asks_hierarchy q.verb)) q.lines line
+      → IsRefusal d q (fault.BadKey line)
+
+-- the fields write values of these types
+abbrev pub HasValues : List AttrType → List Field → Type 0
+HasValues types fields = (values : List Value) × ReadsAs types fields values
+
+-- the values of some line have a row that is too long to be sent
+abbrev pub HasTooLarge : Format → List AttrType → List (List Field) → Type 0
+HasTooLarge format types lines =
+    All (HasValues types) lines
+    × ((before : List (List Field)) × (fields : List Field) × (after : List (List Field)) × (values : List Value)
+    × (lines ≡ before ++ fields ∷ after) × ReadsAs types fields values
+    × (MOST_KEY_BYTES < length (written_row format types values)))
+
+-- why the keys of a lookup can't be fetched: it doesn't fit, or else a line has no key, or else a row is too large
+pub data IsKeyedRefusal (d : Definition) (q : Asked) : ReplyFault → Type 0 where
+  unfitting : {f : ReplyFault} → IsUnfitting d q f → IsKeyedRefusal d q f
+  key : {line : ℕ} → IsFitting d q → IsFirstWithout (HasValues (key_types d)) q.lines line
+      → IsKeyedRefusal d q (fault.BadKey line)
+  large : IsFitting d q → HasTooLarge d.source.format (key_types d) q.lines → IsKeyedRefusal d q fault.TooLarge
+
+-- the types of a function's arguments
+abbrev pub argument_types : FunctionDef → List AttrType
+argument_types f = map (λ argument. argument.ty) f.args
+
+-- why a function can't be called: the arguments of a line don't fit, or else a row is too large
+pub data IsCallRefusal (f : FunctionDef) (q : Asked) : ReplyFault → Type 0 where
+  argument : {line : ℕ} → IsFirstWithout (HasValues (argument_types f)) q.lines line
+      → IsCallRefusal f q (fault.BadArgument line)
+  large : HasTooLarge f.source.format (argument_types f) q.lines → IsCallRefusal f q fault.TooLarge

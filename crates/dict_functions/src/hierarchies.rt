@@ -1,0 +1,94 @@
+// Answers from the hierarchy of a version.
+ghost use Rattle.std.specs.Prelude.{◌≡◌, ◌++◌, ◌⊎◌, ◌<◌, ◌^◌, ℕ, List, All, Err, IsTrue, true, length, OnErr, OnOk};
+
+use crate::asking::key_fault;
+use crate::keys::read_number;
+use crate::lines::{LineFault, OfLine, each_line};
+use crate::replies::flag;
+use dict_value::{Bytes, Fields, ListOf, NoMemory, Uncounted, push_number};
+use dict_version::Version;
+use hier::Hier;
+use std::alloc::Global;
+use wire_text::{Asked, Line, ReplyFault, Verb};
+
+/// Appends a list of numbers; after `NoMemory` the front is as it was.
+fn push_listed(out: &mut Bytes, numbers: &[u64]) -> Result<(), NoMemory>
+    ensures ok { OnOk result (out.new ≡ out.old ++ listed numbers.now) }
+    ensures err { OnErr result (take (length out.old) out.new ≡ out.old) }
+{
+    out.push(b'[')?;
+    for place in 0..numbers.len() {
+        if place > 0 {
+            out.push(b',')?;
+        }
+        push_number(out, numbers[place])?;
+    }
+    out.push(b']')
+}
+
+/// What a question to a hierarchy makes of each line.
+struct HierarchyOf<'a> {
+    version: &'a Version<Uncounted>,
+    hier: &'a Hier,
+    q: &'a Asked,
+    ghost hier_is: { IsHierarchyOf version.now.definition version.now.rows hier.now },
+    ghost asks: { IsTrue (asks_hierarchy q.now.verb) },
+}
+
+impl HierarchyOf<'_> {
+    /// The text for a key alone.
+    fn push_from(&self, alloc: Global, key: u64, out: &mut Bytes) -> Result<(), NoMemory>
+    {
+        let numbers = match self.q.verb {
+            Verb::Hierarchy => self.hier.chain(alloc, key)?,
+            Verb::Children => self.hier.children(alloc, key)?,
+            _ => self.hier.descendants(alloc, key, self.q.level)?,
+        };
+        push_listed(out, numbers.as_slice())
+    }
+}
+
+impl OfLine for HierarchyOf<'_> {
+    type Made = Line;
+
+    ghost takes = { λ of fields. length fields ≡ key_count of.q.now.verb };
+
+    ghost reads = { λ of fields. HasKey of.version.now.definition true fields };
+
+    ghost makes = { λ of fields line. IsLoadedLine of.version.now of.q.now fields line };
+
+    fn make(&self, alloc: Global, fields: &Fields) -> Result<Line, LineFault> {
+        let fields = fields.as_slice();
+        let Some(key) = read_number(alloc, &fields[0]) else {
+            return Err(LineFault::Unread);
+        };
+        let mut text = Bytes::new(alloc);
+        match self.q.verb {
+            Verb::IsIn => {
+                let Some(ancestor) = read_number(alloc, &fields[1]) else {
+                    return Err(LineFault::Unread);
+                };
+                text.extend(flag(self.hier.is_in(key, ancestor)))?;
+            }
+            _ => self.push_from(alloc, key, &mut text)?,
+        }
+        Ok(Line { moment: 0, text })
+    }
+}
+
+/// The lines of a question to a hierarchy.
+pub(crate) fn hierarchy_lines(
+    alloc: Global,
+    version: &Version<Uncounted>,
+    q: &Asked,
+) -> Result<ListOf<Line>, ReplyFault>
+    requires verb { IsTrue (asks_hierarchy q.now.verb) }
+    requires few { length q.now.lines < 2 ^ 32 }
+    requires counts { All (λ fields. length fields ≡ key_count q.now.verb) q.now.lines }
+    ensures { UnlessNoMemory (Err fault.NoMemory) result (Answered version.now q.now result) }
+{
+    let Some(hier) = version.hier() else {
+        return Err(ReplyFault::WrongLayout);
+    };
+    each_line(alloc, &HierarchyOf { version, hier, q }, &q.lines).map_err(key_fault)
+}
