@@ -1,24 +1,21 @@
 -- What a lookup asks for, and of which attribute.
-use Rattle.std.specs.Prelude.{◌≡◌, ◌≢◌, ◌≤◌, ◌∷◌, ◌++◌, [], ℕ, List, Bool, true, false, Some, IsTrue, length, slice_get}
-use Rattle.std.specs.List.{flat_map}
+use Rattle.std.specs.Prelude.{◌≡◌, ◌≢◌, ◌≤◌, ℕ, List, Bool, true, false, Some, IsTrue, length, slice_get}
 use Rattle.dict_schema.specs.Parts.{is_attribute}
 use Rattle.dict_schema.specs.declared.definition.Column.{Column}
 use Rattle.dict_schema.specs.declared.definition.Definition.{Definition}
-use Rattle.dict_value.specs.declared.letters.TheConstants.{LINE_FEED}
 use Rattle.wire_text.specs.Requests.{IsRequest}
-use Rattle.wire_text.specs.declared.lines.TheConstants.{MOST_BLOCK_BYTES, MOST_BLOCK_LINES}
+use Rattle.wire_text.specs.declared.lines.TheConstants.{MOST_BLOCK_LINES}
 use Rattle.wire_text.specs.declared.request.Asked.{Asked}
 use Rattle.wire_text.specs.declared.request.Request.TheVariants as request
 use Rattle.wire_text.specs.declared.request.Verb.{Verb}
 use Rattle.wire_text.specs.declared.request.Verb.TheVariants as verb
 
--- some lines within the bounds of a block ask this
+-- some lines ask this, at most as many as a block may have
 pub record IsAsked (q : Asked) : Type 0 where
   pub first : List ℕ
   pub more : List (List ℕ)
   pub reads : IsRequest first more (request.Asked q)
   pub few : length more ≤ MOST_BLOCK_LINES
-  pub small : length (flat_map (λ line. line ++ LINE_FEED ∷ []) more) ≤ MOST_BLOCK_BYTES
 
 -- a lookup in a dictionary, and a call of a function
 abbrev pub IsLookup : Asked → Type 0

@@ -27,6 +27,7 @@ fn push_listed(out: &mut Bytes, numbers: &[u64]) -> Result<(), NoMemory>
 }
 
 /// What a question to a hierarchy makes of each line.
+#[derive(Clone, Copy)]
 struct HierarchyOf<'a> {
     version: &'a Version<Uncounted>,
     hier: &'a Hier,

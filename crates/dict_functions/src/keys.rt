@@ -191,6 +191,7 @@ pub(crate) fn read_key(
 }
 
 /// What makes a list of values of each line, one of each type.
+#[derive(Clone, Copy)]
 pub(crate) struct ValuesOf<'a> {
     pub types: &'a [AttrType],
 }

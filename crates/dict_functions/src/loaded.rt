@@ -26,6 +26,7 @@ use version_slot::Seen;
 use wire_text::{Asked, Line, Mark, Reply, ReplyFault, Verb};
 
 /// What a lookup of an attribute makes of each line.
+#[derive(Clone, Copy)]
 struct AttributeOf<'a> {
     version: &'a Version<Uncounted>,
     q: &'a Asked,
@@ -59,6 +60,7 @@ impl OfLine for AttributeOf<'_> {
 }
 
 /// What the question whether a row has a key makes of each line.
+#[derive(Clone, Copy)]
 struct HasOf<'a> {
     version: &'a Version<Uncounted>,
     types: &'a [AttrType],

@@ -9,7 +9,7 @@ use packed_rows::Cell;
 use row_text::write_text;
 
 /// Appends the escaped text of a cell, and `\N` for NULL; after `NoMemory` nothing has changed.
-pub(crate) fn print_cell(ty: &AttrType, cell: &Cell<'_>, out: &mut Bytes) -> Result<(), NoMemory>
+pub fn print_cell(ty: &AttrType, cell: &Cell<'_>, out: &mut Bytes) -> Result<(), NoMemory>
     requires { FitsColumn ty.now (meaning cell.now) }
     ensures ok { OnOk result (out.new ≡ out.old ++ printed ty.now.base (meaning cell.now)) }
     ensures err { OnErr result (out.new ≡ out.old) }
