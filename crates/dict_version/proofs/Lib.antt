@@ -1,2 +1,5 @@
 -- Lemmas of this crate.
+pub mod AttributePlaces
 pub mod PlainTexts
+pub mod RowCells
+pub mod SoundParts

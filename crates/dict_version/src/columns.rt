@@ -1,12 +1,16 @@
 // The columns of rows that an index is made of.
-ghost use Rattle.std.specs.Prelude.{◌≡◌, ◌≤◌, ◌∷◌, ◌++◌, IfOk, length, map, take, slice_get};
-ghost use Rattle.dict_value.specs.declared.value.TheConstants.{MOST_ROWS};
-ghost use Rattle.dict_version.specs.Keys.{attribute_place, end_count, end_in, key_lists_of, number_in, numbers_of};
-ghost use Rattle.dict_version.specs.Keys.{parent_column, parent_in, parents_of, range_behind, ranges_of, text_in};
-ghost use Rattle.dict_version.specs.Keys.{texts_of};
-ghost use Rattle.packed_rows.specs.Cells.{meaning};
-ghost use Rattle.packed_rows.specs.Columns.{cell_at};
+ghost use Rattle.std.specs.Prelude.{◌≡◌, ◌≤◌, ◌<◌, List, Some, IfOk, IsTrue, count_by, length, map, slice_get, take};
+ghost use Rattle.std.specs.List.{range_with_len};
 ghost use Rattle.std.specs.Option.{option_map};
+ghost use Rattle.dict_schema.specs.Parts.{is_attribute};
+ghost use Rattle.dict_schema.specs.Shapes.{shape_column, shape_of};
+ghost use Rattle.dict_schema.specs.Sound.{IsSound};
+ghost use Rattle.dict_schema.specs.declared.definition.Column.{Column as ColumnOf};
+ghost use Rattle.dict_schema.specs.declared.definition.Role.TheVariants.{Attribute};
+ghost use Rattle.dict_value.specs.declared.value.Value.{Value as ValueOf};
+ghost use Rattle.dict_version.specs.Keys.{attribute_place, end_count, end_in, is_numbered, number_in, numbers_of};
+ghost use Rattle.dict_version.specs.Keys.{parent_column, parent_in, range_behind, text_in, texts_of};
+ghost use Rattle.packed_rows.specs.Cells.{meaning};
 
 use dict_schema::{Definition, Layout, RangeOf, is_attribute};
 use dict_value::{Bytes, KeyList, ListOf, NoMemory};
@@ -17,7 +21,7 @@ use std::alloc::Global;
 
 /// The number that a cell is.
 fn number_in(cell: Option<Cell<'_>>) -> u64
-    ensures { result ≡ number_in (option_map meaning cell) }
+    ensures { result ≡ number_in (option_map meaning cell.entry) }
 {
     match cell {
         Some(Cell::U(number)) => number,
@@ -42,7 +46,7 @@ pub(crate) fn numbers_of(alloc: Global, rows: &Rows) -> Result<Vec<u64>, NoMemor
 
 /// A copy of the text that a cell is.
 fn text_in(alloc: Global, cell: Option<Cell<'_>>) -> Result<Bytes, NoMemory>
-    ensures { IfOk result (λ text. text ≡ text_in (option_map meaning cell)) }
+    ensures { IfOk result (λ text. text ≡ text_in (option_map meaning cell.entry)) }
 {
     match cell {
         Some(Cell::S(text)) => Bytes::copy_of(alloc, text),
@@ -73,7 +77,8 @@ fn first_values(
     place: usize,
     count: usize,
 ) -> Result<KeyList, NoMemory>
-    ensures { IfOk result (λ values. option_map (take count) (slice_get rows.now place) ≡ Some values) }
+    ensures { IfOk result (λ values. (row : List ValueOf)
+        → slice_get rows.now place ≡ Some row → values ≡ take count row) }
 {
     let mut values = ListOf::with_room(alloc, count)?;
     for column in 0..count {
@@ -107,7 +112,7 @@ pub(crate) fn first_values_of(
 
 /// The end of a range that a cell is.
 fn end_in(cell: Option<Cell<'_>>) -> End
-    ensures { result ≡ end_in (option_map meaning cell) }
+    ensures { result ≡ end_in (option_map meaning cell.entry) }
 {
     match cell {
         Some(Cell::U(number)) => End::At(i128::from(number)),
@@ -140,7 +145,7 @@ pub(crate) fn ranges_of(alloc: Global, rows: &Rows, start: usize) -> Result<Vec<
 
 /// The parent that a cell names.
 fn parent_in(cell: Option<Cell<'_>>) -> Parent
-    ensures { result ≡ parent_in (option_map meaning cell) }
+    ensures { result ≡ parent_in (option_map meaning cell.entry) }
 {
     match cell {
         Some(Cell::U(key)) => Parent::Of(key),
@@ -152,7 +157,7 @@ fn parent_in(cell: Option<Cell<'_>>) -> Parent
 pub(crate) fn parents_at(
     alloc: Global,
     rows: &Rows,
-    column: usize,
+    column: u32,
 ) -> Result<Vec<Parent>, NoMemory>
     ensures { IfOk result (λ parents. parents.items ≡ map (λ row. parent_in (slice_get row column)) rows.now) }
 {
@@ -160,7 +165,7 @@ pub(crate) fn parents_at(
         return Err(NoMemory);
     };
     for place in 0..rows.len() {
-        if parents.push(parent_in(rows.get(place, column))).is_err() {
+        if parents.push(parent_in(rows.get(place, column as usize))).is_err() {
             return Err(NoMemory);
         }
     }
@@ -168,7 +173,7 @@ pub(crate) fn parents_at(
 }
 
 /// How many columns of a row are ends of a range.
-fn end_count(range: &RangeOf) -> usize
+fn end_count(range: &RangeOf) -> u32
     ensures { result ≡ end_count range.now }
 {
     match range {
@@ -177,13 +182,31 @@ fn end_count(range: &RangeOf) -> usize
     }
 }
 
-/// The place in a row of the attribute that is this column of the definition, from 0.
-pub fn attribute_place(d: &Definition, column: usize) -> usize
-    requires { column ≤ 255 }
-    ensures { result ≡ attribute_place d.now column }
+/// How many attributes there are before a column.
+fn attributes_before(d: &Definition, column: u32) -> u32
+    ensures count { result ≡ count_by (is_attribute d.now) (range_with_len 0 column) }
+    ensures bound { result ≤ column }
 {
-    let before = (0..column).filter(|place| is_attribute(d, *place)).count();
-    d.keys.len() + end_count(&d.range) + before
+    let mut count = 0;
+    for place in 0..column {
+        if is_attribute(d, place as usize) {
+            count += 1;
+        }
+    }
+    count
+}
+
+/// The place in a row of the attribute that is this column of the definition, both from 0.
+pub fn attribute_place(d: &Definition, column: u32) -> u32
+    requires sound { IsSound d.now }
+    requires within { column < length d.now.columns }
+    ensures place { result ≡ attribute_place d.now column }
+    // The column of a row that stands there is this one.
+    ensures there { (attribute : ColumnOf) → slice_get d.now.columns column ≡ Some attribute
+        → IsTrue (is_attribute d.now column)
+        → slice_get (shape_of d.now) result ≡ Some (shape_column Attribute attribute) }
+{
+    d.keys.len() as u32 + end_count(&d.range) + attributes_before(d, column)
 }
 
 /// Whether a layout's key is one number.
@@ -197,7 +220,8 @@ fn is_numbered(layout: &Layout) -> bool
 }
 
 /// The column of the definition that names a parent, where the layout has a hierarchy.
-pub(crate) fn parent_column(d: &Definition) -> Option<usize>
+pub(crate) fn parent_column(d: &Definition) -> Option<u32>
+    requires { length d.now.columns ≤ 64 }
     ensures { result ≡ parent_column d.now }
 {
     if !is_numbered(&d.layout) {
@@ -207,4 +231,5 @@ pub(crate) fn parent_column(d: &Definition) -> Option<usize>
         .as_slice()
         .iter()
         .position(|column| column.hierarchical)
+        .map(|place| place as u32)
 }

@@ -1,11 +1,16 @@
 // The index of a row list that a layout wants.
-ghost use Rattle.std.specs.Prelude.{◌≡◌, ◌≢◌, ◌≤◌, Err, IfErr, IfOk, OnOk, length};
+ghost use Rattle.std.specs.Prelude.{◌≡◌, ◌≤◌, List, Err, false, IfErr, IfOk, OnOk, length};
+ghost use Rattle.dict_schema.specs.Parts.{is_keyed_layout};
+ghost use Rattle.dict_schema.specs.Sound.{IsSound};
+ghost use Rattle.dict_schema.specs.declared.definition.Definition.{Definition as DefinitionOf};
 ghost use Rattle.dict_value.specs.Memory.{UnlessNoMemory};
 ghost use Rattle.dict_value.specs.declared.value.TheConstants.{MOST_ROWS};
+ghost use Rattle.dict_value.specs.declared.value.Value.{Value as ValueOf};
 ghost use Rattle.dict_version.specs.Kept.{HasHierarchy, IsIndexBy};
 ghost use Rattle.dict_version.specs.Lookups.{FindsBy, StepsBy, lookup_by};
-ghost use Rattle.dict_version.specs.Rows.{IsRefusedBy, LayoutTakesBy};
+ghost use Rattle.dict_version.specs.Rows.{IsRefusedBy, IsRefusedFor, LayoutTakes, LayoutTakesBy};
 ghost use Rattle.dict_version.specs.declared.fault.LayoutFault.TheVariants as fault;
+ghost use Rattle.dict_version.specs.declared.lookup.LookupBy.{LookupBy as LookupByOf};
 ghost use Rattle.dict_version.specs.declared.lookup.LookupBy.TheVariants as by;
 
 use crate::columns::{
@@ -41,7 +46,7 @@ fn small_numbers<S: Counter>(
     limit: u32,
 ) -> Result<Index<S>, LayoutFault>
     requires { length rows.now ≤ MOST_ROWS }
-    ensures index { (d : Definition) → IfOk result (IsIndexBy (by.SmallNumber limit) d rows.now) }
+    ensures index { (d : DefinitionOf) → IfOk result (IsIndexBy (by.SmallNumber limit) d rows.now) }
     ensures taken { OnOk result (LayoutTakesBy (by.SmallNumber limit) rows.now) }
     ensures refused { UnlessNoMemory (Err fault.NoMemory) result
         (IfErr result (IsRefusedBy (by.SmallNumber limit) rows.now)) }
@@ -57,7 +62,7 @@ fn small_numbers<S: Counter>(
 /// The index of rows whose keys are numbers.
 fn numbers<S: Counter>(alloc: Global, rows: &Rows) -> Result<Index<S>, NoMemory>
     requires { length rows.now ≤ MOST_ROWS }
-    ensures { (d : Definition) → IfOk result (IsIndexBy by.Number d rows.now) }
+    ensures { (d : DefinitionOf) → IfOk result (IsIndexBy by.Number d rows.now) }
 {
     let numbers = numbers_of(alloc, rows)?;
     Ok(Index::Numbers(Hashed::build(alloc, numbers.as_slice())?))
@@ -95,7 +100,7 @@ fn ranges<S: Counter>(
 /// The index of rows whose keys are texts of prefixes.
 fn prefixes<S: Counter>(alloc: Global, rows: &Rows) -> Result<Index<S>, LayoutFault>
     requires { length rows.now ≤ MOST_ROWS }
-    ensures index { (d : Definition) → IfOk result (IsIndexBy by.Address d rows.now) }
+    ensures index { (d : DefinitionOf) → IfOk result (IsIndexBy by.Address d rows.now) }
     ensures taken { OnOk result (LayoutTakesBy by.Address rows.now) }
     ensures refused { UnlessNoMemory (Err fault.NoMemory) result
         (IfErr result (IsRefusedBy by.Address rows.now)) }
@@ -134,9 +139,9 @@ impl<S: Counter> Index<S> {
 
     /// The place that is found by a key, without taking memory.
     pub(crate) fn find(&self, key: &Key, steps: &mut S) -> Option<u32>
-        ensures found { (wanted : LookupByOf) (d : Definition) (rows : List (List Value))
+        ensures found { (wanted : LookupByOf) (d : DefinitionOf) (rows : List (List ValueOf))
             → IsIndexBy wanted d rows self.now → FindsBy wanted d rows key.now result }
-        ensures steps { (wanted : LookupByOf) (d : Definition) (rows : List (List Value))
+        ensures steps { (wanted : LookupByOf) (d : DefinitionOf) (rows : List (List ValueOf))
             → IsIndexBy wanted d rows self.now
             → StepsBy wanted d rows key.now (S.amount steps.old) (S.amount steps.new) }
     {
@@ -160,7 +165,8 @@ pub(crate) fn hierarchy_of(
     d: &Definition,
     rows: &Rows,
 ) -> Result<Option<Hier>, NoMemory>
-    requires { length rows.now ≤ MOST_ROWS }
+    requires sound { IsSound d.now }
+    requires few { length rows.now ≤ MOST_ROWS }
     ensures { IfOk result (HasHierarchy d.now rows.now) }
 {
     let Some(column) = parent_column(d) else {

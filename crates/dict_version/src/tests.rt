@@ -16,7 +16,7 @@ use dict_schema::{
 };
 use dict_value::{
     AttrType, Bytes, ColType, Format, KeyList, ListOf, MOST_ROWS, NoMemory, Row, Tally, Value,
-    default_of, fits_column,
+    default_of, fits_column, same_value,
 };
 use packed_rows::{Cell, Rows, RowsBuilder, value_of};
 use std::alloc::Global;
@@ -385,5 +385,185 @@ fn keys_find_their_rows(rt: HostRuntime) -> Result<(), Fail> {
             assert_eq!(rt; found, *place, "at {table} and {line}");
         }
     }
+    Ok(())
+}
+
+/// A list of rows that a layout doesn't take, and why.
+struct Refusing {
+    sketch: Sketch,
+    rows: &'static [&'static [Cell<'static>]],
+    fault: LayoutFault,
+}
+
+static REFUSALS: [Refusing; 3] = [
+    Refusing {
+        sketch: FLAT,
+        rows: &[
+            &[Cell::U(1), Cell::S(b"a")],
+            &[Cell::U(500_000), Cell::S(b"b")],
+            &[Cell::U(u64::MAX), Cell::S(b"c")],
+        ],
+        fault: LayoutFault::KeyTooLarge(500_000),
+    },
+    Refusing {
+        sketch: PREFIXES,
+        rows: &[&[Cell::S(b"1.2.3.4/33"), Cell::S(b"x")]],
+        fault: LayoutFault::BadPrefix(1),
+    },
+    Refusing {
+        sketch: PREFIXES,
+        rows: &[
+            &[Cell::S(b"::/0"), Cell::S(b"x")],
+            &[Cell::S(b""), Cell::S(b"y")],
+            &[Cell::S(b"z"), Cell::S(b"z")],
+        ],
+        fault: LayoutFault::BadPrefix(2),
+    },
+];
+
+#[test]
+fn rows_are_refused(rt: HostRuntime) -> Result<(), Fail> {
+    for (table, refusing) in REFUSALS.iter().enumerate() {
+        match version_of(rt.alloc(), &refusing.sketch, refusing.rows)? {
+            Ok(_) => return Err("a version".into()),
+            Err(fault) => assert_eq!(rt; fault, refusing.fault, "at {table}"),
+        }
+    }
+    Ok(())
+}
+
+const TYPED: Sketch = Sketch {
+    types: &[
+        (ColType::UInt64, false),
+        (ColType::Date, false),
+        (ColType::DateTime, false),
+        (ColType::Decimal(5, 2), false),
+        (ColType::Ipv6, false),
+        (ColType::Str, true),
+        (ColType::Uuid, false),
+        (ColType::Ipv4, false),
+        (ColType::Int8, false),
+    ],
+    ..HASHED
+};
+
+const TYPED_ROWS: &[&[Cell<'static>]] = &[
+    &[
+        Cell::U(1),
+        Cell::Day(65_535),
+        Cell::Second(4_294_967_295),
+        Cell::Dec(-150),
+        Cell::V6(0x2001_0db8 << 96 | 1),
+        Cell::S(b"a\tb\\'"),
+        Cell::Id(0x6120_0000_0000_4000_8000_0000_0000_00ff),
+        Cell::V4(0x0102_03ff),
+        Cell::I(-128),
+    ],
+    &[
+        Cell::U(2),
+        Cell::Day(0),
+        Cell::Second(0),
+        Cell::Dec(7),
+        Cell::V6(0xffff << 32 | 1),
+        Cell::Null,
+        Cell::Id(0),
+        Cell::V4(0),
+        Cell::I(0),
+    ],
+];
+
+/// The texts of their cells, row by row.
+static PRINTED: [[&str; 9]; 2] = [
+    [
+        "1",
+        "2149-06-06",
+        "2106-02-07 06:28:15",
+        "-1.5",
+        "2001:db8::1",
+        "a\\tb\\\\\\'",
+        "61200000-0000-4000-8000-0000000000ff",
+        "1.2.3.255",
+        "-128",
+    ],
+    [
+        "2",
+        "1970-01-01",
+        "1970-01-01 00:00:00",
+        "0.07",
+        "::ffff:0.0.0.1",
+        "\\N",
+        "00000000-0000-0000-0000-000000000000",
+        "0.0.0.0",
+        "0",
+    ],
+];
+
+#[test]
+fn cells_are_printed_where_they_lie(rt: HostRuntime) -> Result<(), Fail> {
+    let alloc = rt.alloc();
+    let Ok(version) = version_of(alloc, &TYPED, TYPED_ROWS)? else {
+        return Err("no version".into());
+    };
+    let mut out = Bytes::new(alloc);
+    for place in 0..version.row_count() {
+        for column in 0..9 {
+            out.clear();
+            version.write_cell(place, column, &mut out)?;
+            let wanted = PRINTED[place as usize][column as usize];
+            assert_eq!(rt; out.as_slice(), wanted.as_bytes(), "at {place} and {column}");
+        }
+    }
+    Ok(())
+}
+
+#[test]
+fn a_version_is_its_parts(rt: HostRuntime) -> Result<(), Fail> {
+    let alloc = rt.alloc();
+    let rows: [&[Cell<'static>]; 2] = [&[Cell::U(1), Cell::S(b"a")], &[Cell::U(2), Cell::S(b"b")]];
+    let Ok(version) = version_of(alloc, &FLAT, &rows)? else {
+        return Err("no version".into());
+    };
+    assert_eq!(rt; version.moment(), 0);
+    let version = version.stamp(100);
+    assert_eq!(rt; version.moment(), 100);
+    assert_eq!(rt; version.row_count(), 2);
+    assert_eq!(rt; version.stored(), 34);
+    assert_eq!(rt; version.definition().name.as_slice(), b"d".as_slice());
+    assert!(rt; version.hier().is_none());
+    let row = version.row(alloc, 1)?;
+    let wanted = values_of(alloc, rows[1])?;
+    assert_eq!(rt; row.len(), 2);
+    for (value, wanted) in row.as_slice().iter().zip(wanted.as_slice()) {
+        assert!(rt; same_value(value, wanted));
+    }
+    let value = version.value(alloc, 0, 1)?;
+    assert!(rt; same_value(&value, &Value::S(Bytes::copy_of(alloc, b"a")?)));
+    Ok(())
+}
+
+const TREE: &[&[Cell<'static>]] = &[
+    &[Cell::U(1), Cell::U(0)],
+    &[Cell::U(2), Cell::U(1)],
+    &[Cell::U(3), Cell::U(1)],
+    &[Cell::U(4), Cell::U(2)],
+    &[Cell::U(5), Cell::U(6)],
+    &[Cell::U(6), Cell::U(5)],
+];
+
+#[test]
+fn keys_name_their_parents(rt: HostRuntime) -> Result<(), Fail> {
+    let alloc = rt.alloc();
+    let Ok(version) = version_of(alloc, &HIERARCHY, TREE)? else {
+        return Err("no version".into());
+    };
+    let Some(hier) = version.hier() else {
+        return Err("no hierarchy".into());
+    };
+    assert_eq!(rt; hier.chain(alloc, 4)?.as_slice(), *&[4, 2, 1].as_slice());
+    assert_eq!(rt; hier.chain(alloc, 5)?.as_slice(), *&[5, 6].as_slice());
+    assert_eq!(rt; hier.children(alloc, 1)?.as_slice(), *&[2, 3].as_slice());
+    assert_eq!(rt; hier.descendants(alloc, 1, 2)?.as_slice(), *&[4].as_slice());
+    assert!(rt; hier.is_in(4, 1));
+    assert!(rt; !hier.is_in(1, 4));
     Ok(())
 }

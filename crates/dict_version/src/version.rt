@@ -13,7 +13,7 @@ ghost use Rattle.dict_version.specs.Kept.{HasHierarchy, IsHierarchyOf};
 ghost use Rattle.dict_version.specs.Keys.{parent_column};
 ghost use Rattle.dict_version.specs.Lookups.{Finds, TakesFew};
 ghost use Rattle.dict_version.specs.Printed.{IsPrintedAt};
-ghost use Rattle.dict_version.specs.Rows.{IsRefusedFor, LayoutTakes, TakesRows, cell_types};
+ghost use Rattle.dict_version.specs.Rows.{IsRefusedFor, LayoutTakes, TakesRows, cell_type, cell_types};
 ghost use Rattle.dict_version.specs.declared.fault.LayoutFault.TheVariants as fault;
 ghost use Rattle.packed_rows.specs.Columns.{cell_at};
 ghost use Rattle.packed_rows.specs.Packs.{stored_size};
