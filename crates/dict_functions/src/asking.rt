@@ -17,7 +17,7 @@ use wire_text::{Asked, ReplyFault, Verb};
 #[derive(Drop)]
 pub(crate) struct Attribute {
     /// Its place in the definition.
-    pub place: usize,
+    pub place: u32,
     /// What is printed where there is no row.
     pub missing: Bytes,
 }
@@ -33,14 +33,15 @@ pub(crate) fn asks_hierarchy(verb: Verb) -> bool
 }
 
 /// The place in the definition of the attribute of a name.
-pub(crate) fn attribute_named(d: &Definition, name: &[u8]) -> Option<usize>
+fn attribute_named(d: &Definition, name: &[u8]) -> Option<u32>
+    requires { length d.now.columns < 2 ^ 32 }
     ensures { MatchOption result
         ((place : ℕ) (column : ColumnOf) → ¬ (IsAttributeNamed d.now name.now place column))
         (λ place. (column : ColumnOf) × IsAttributeNamed d.now name.now place column) }
 {
     for place in 0..d.columns.len() {
         if d.columns.as_slice()[place].name.as_slice() == name && is_attribute(d, place) {
-            return Some(place);
+            return Some(place as u32);
         }
     }
     None
@@ -101,7 +102,7 @@ pub(crate) fn attribute_of(alloc: Global, d: &Definition, q: &Asked) -> Result<A
     let Some(place) = attribute_named(d, q.attribute.as_slice()) else {
         return Err(ReplyFault::UnknownAttribute);
     };
-    let column = &d.columns.as_slice()[place];
+    let column = &d.columns.as_slice()[place as usize];
     let value = match stand_in(alloc, q, column) {
         Ok(value) => value,
         Err(fault) => return Err(default_fault(fault)),

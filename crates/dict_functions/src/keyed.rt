@@ -64,15 +64,16 @@ pub fn keys_of(alloc: Global, d: &Definition, q: &Asked) -> Result<ListOf<KeyLis
 }
 
 /// The place of an attribute in a fetched row.
-fn fetched_place(d: &Definition, place: usize) -> usize
-    requires { place ≤ 255 }
+fn fetched_place(d: &Definition, place: u32) -> u32
+    requires sound { IsSound d.now }
+    requires within { place < length d.now.columns }
     ensures { result ≡ fetched_place d.now place }
 {
-    let place = attribute_place(d, place);
+    let at = attribute_place(d, place);
     if d.source.implicit {
-        place - d.keys.len()
+        at - d.keys.len() as u32
     } else {
-        place
+        at
     }
 }
 
@@ -108,8 +109,8 @@ fn attribute_text(
     match row {
         MaybeRow::Absent => text.extend(attribute.missing.as_slice())?,
         MaybeRow::Present(row) => {
-            let column = &d.columns.as_slice()[attribute.place];
-            let value = &row.as_slice()[fetched_place(d, attribute.place)];
+            let column = &d.columns.as_slice()[attribute.place as usize];
+            let value = &row.as_slice()[fetched_place(d, attribute.place) as usize];
             print_value(&column.ty, value, &mut text)?;
         }
     }

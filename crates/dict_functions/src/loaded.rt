@@ -103,7 +103,7 @@ fn attribute_lines(
         version,
         q,
         attribute: &attribute,
-        cell: attribute_place(d, attribute.place) as u32,
+        cell: attribute_place(d, attribute.place),
         types: types.as_slice(),
     };
     each_line(alloc, &of, &q.lines).map_err(key_fault)
