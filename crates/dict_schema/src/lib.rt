@@ -30,4 +30,4 @@ pub use dict_value::Format;
 pub use fault::{DefFault, Which};
 pub use layout::is_keyed;
 pub use parts::{column_at, is_attribute};
-pub use shapes::{keyed_shape, shape};
+pub use shapes::{cell_type, keyed_shape, may_be_open, shape};

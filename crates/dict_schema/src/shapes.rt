@@ -1,11 +1,11 @@
 // The columns of a row as a child prints it.
 ghost use Rattle.std.specs.Prelude.{◌≡◌, ◌++◌, ◌<◌, ℕ, List, [], ◌∷◌, IfOk, OnOk, take, length};
-ghost use Rattle.dict_schema.specs.Shapes.{attribute_columns, columns_at, end_columns, keyed_shape_of, shape_column};
-ghost use Rattle.dict_schema.specs.Shapes.{shape_of};
+ghost use Rattle.dict_schema.specs.Shapes.{attribute_columns, cell_type, columns_at, end_columns, keyed_shape_of};
+ghost use Rattle.dict_schema.specs.Shapes.{may_be_open, shape_column, shape_of};
 
 use crate::definition::{Definition, RangeOf, Role, Shape, ShapeColumn};
 use crate::parts::{column_at, is_attribute};
-use dict_value::{ListOf, NoMemory, copy_value};
+use dict_value::{AttrType, ListOf, NoMemory, copy_value};
 use std::alloc::Global;
 
 #[cfg(test)]
@@ -86,4 +86,21 @@ fn push_attributes(alloc: Global, d: &Definition, shape: &mut Shape) -> Result<(
         }
     }
     Ok(())
+}
+
+/// Whether NULL in a column stands for an end of a range that is open.
+pub fn may_be_open(role: Role) -> bool
+    ensures { result ≡ may_be_open role }
+{
+    matches!(role, Role::Start | Role::End)
+}
+
+/// The type of the values in a column of a row: that of the column, and nullable at an end of a range.
+pub fn cell_type(column: &ShapeColumn) -> AttrType
+    ensures { result ≡ cell_type column.now }
+{
+    AttrType {
+        base: column.ty.base,
+        nullable: may_be_open(column.role) || column.ty.nullable,
+    }
 }

@@ -4,6 +4,7 @@ pub mod CsvRow
 pub mod Cutting
 pub mod Held
 pub mod Tables
+pub mod Written
 pub mod Decoding
 pub mod Fitting
 pub mod steps

@@ -19,7 +19,8 @@ use Rattle.dict_value.specs.declared.value.Value.{Value}
 use Rattle.dict_value.specs.declared.value.Value.TheVariants.{Null, U, I, S, Day, Second, Id, V4, V6, Dec}
 use Rattle.row_text.specs.Decoding.{Reader}
 use Rattle.row_text.specs.Fitting.{AllFit}
-use Rattle.rows_typed.specs.Fits.{FitsRole, HasFittingDefaults, IsUnsigned, column_type, column_types}
+use Rattle.dict_schema.specs.Shapes.{cell_type, cell_types}
+use Rattle.rows_typed.specs.Fits.{FitsRole, HasFittingDefaults, IsUnsigned}
 use Rattle.rows_typed.specs.Shapes.{column_by, columns_of, seen_field}
 use Rattle.rows_typed.proofs.RowsFit.{value-fits}
 
@@ -60,8 +61,8 @@ digits-read t text n most unsigned digits is small = absurd unsigned
 
 -- the column and the type at a place
 
-pub type-read : (shape : List ShapeColumn) (i : ℕ) (column : ShapeColumn) → slice_get shape i ≡ Some column → slice_get (column_types shape) i ≡ Some (column_type column)
-type-read shape i column here = slice_get-map column_type shape i ∙ ap (λ o. option_map column_type o) here
+pub type-read : (shape : List ShapeColumn) (i : ℕ) (column : ShapeColumn) → slice_get shape i ≡ Some column → slice_get (cell_types shape) i ≡ Some (cell_type column)
+type-read shape i column here = slice_get-map cell_type shape i ∙ ap (λ o. option_map cell_type o) here
 
 pub column-read : (format : Format) (shape : List ShapeColumn) (i : ℕ) (column : ShapeColumn) (reader : Reader) → slice_get shape i ≡ Some column → slice_get (columns_of format shape) i ≡ Some reader
     → column_by format column ≡ reader
@@ -71,7 +72,7 @@ column-read format shape i column reader here there =
 
 -- what the columns read fits their types
 
-role-column : (column : ShapeColumn) (v : Value) → FitsRole column.role column.ty v → FitsColumn (column_type column) v
+role-column : (column : ShapeColumn) (v : Value) → FitsRole column.role column.ty v → FitsColumn (cell_type column) v
 role-column column Null fits = fits
 role-column column (U n) fits = fits
 role-column column (I n) fits = fits
@@ -83,7 +84,7 @@ role-column column (V4 n) fits = fits
 role-column column (V6 n) fits = fits
 role-column column (Dec n) fits = fits
 
-pub shape-fits : (format : Format) (shape : List ShapeColumn) → HasFittingDefaults shape → AllFit (columns_of format shape) (column_types shape)
+pub shape-fits : (format : Format) (shape : List ShapeColumn) → HasFittingDefaults shape → AllFit (columns_of format shape) (cell_types shape)
 shape-fits format [] defaults = tt
 shape-fits format (column ∷ shape) defaults =
     (λ field v is. role-column column v (value-fits column (seen_field format column.ty field) v defaults.0 is), shape-fits format shape defaults.1)

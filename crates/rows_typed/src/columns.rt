@@ -2,12 +2,12 @@
 ghost use Rattle.std.specs.Prelude.{◌≡◌, length, reverse, take_while, IfNone, IfSome, Ok};
 ghost use Rattle.dict_value.specs.Values.{text_reading};
 ghost use Rattle.packed_rows.specs.Cells.{meaning};
-ghost use Rattle.rows_typed.specs.Fits.{IsUnsigned, column_type, is_end_role};
+ghost use Rattle.rows_typed.specs.Fits.{IsUnsigned};
 ghost use Rattle.row_text.specs.Decoding.{Reads};
 ghost use Rattle.dict_value.specs.Letters.{is_blank_byte};
 ghost use Rattle.rows_typed.specs.Shapes.{column_by, is_null_text, null_or_text, seen_text, value_at, without_blanks};
 
-use dict_schema::{Role, ShapeColumn};
+use dict_schema::{Role, ShapeColumn, cell_type, may_be_open};
 use dict_value::letters::{BACKSLASH, CAPITAL_N, TAB};
 use dict_value::{
     AttrType, BadValue, Bytes, ColType, Field, Format, Value, copy_value, read_digits, read_text,
@@ -30,16 +30,16 @@ impl<'a> Columns for ShapeColumns<'a> {
 
     ghost columns = { λ s. columns_of s.format s.shape.now };
 
-    ghost use Rattle.rows_typed.specs.Fits.{column_types};
+    ghost use Rattle.dict_schema.specs.Shapes.{cell_types};
 
-    ghost types = { λ s. column_types s.shape.now };
+    ghost types = { λ s. cell_types s.shape.now };
 
     fn count(&self) -> usize {
         self.shape.len()
     }
 
     fn type_at(&self, place: usize) -> AttrType {
-        column_type(&self.shape[place])
+        cell_type(&self.shape[place])
     }
 
     fn read_cell<'t>(&'t self, alloc: Global, place: usize, text: &'t [u8]) -> Option<Cell<'t>> {
@@ -53,22 +53,6 @@ impl<'a> Columns for ShapeColumns<'a> {
     fn read(&self, alloc: Global, place: usize, field: Field) -> Result<Value, BadValue> {
         read_field(alloc, self.format, &self.shape[place], field)
     }
-}
-
-/// The type of a column's values: an end of a range may be open, and is Null there.
-fn column_type(column: &ShapeColumn) -> AttrType
-    ensures { result ≡ column_type column.now }
-{
-    AttrType {
-        base: column.ty.base,
-        nullable: is_end(column.role) || column.ty.nullable,
-    }
-}
-
-fn is_end(role: Role) -> bool
-    ensures { result ≡ is_end_role role }
-{
-    matches!(role, Role::Start | Role::End)
 }
 
 /// What a column makes of a text, where that is a value without memory; None leaves a text to `read_field`.
