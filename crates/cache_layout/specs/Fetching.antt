@@ -1,44 +1,23 @@
 -- What is fetched for the keys of a dictionary whose rows come by key.
-use Rattle.std.specs.Prelude.{◌≡◌, ◌≤◌, ◌∷◌, ◌++◌, [], ℕ, List, length, map, ⊤}
+use Rattle.std.specs.Prelude.{◌≡◌, ◌≤◌, ℕ, List, length, map, ⊤}
 use Rattle.std.specs.List.{AllZip}
 use Rattle.dict_schema.specs.declared.definition.Definition.{Definition}
 use Rattle.dict_schema.specs.declared.definition.Role.TheVariants.{Key}
 use Rattle.dict_schema.specs.declared.definition.ShapeColumn.{ShapeColumn}
 use Rattle.dict_schema.specs.Shapes.{columns_at, keyed_shape_of}
-use Rattle.dict_value.specs.declared.letters.TheConstants.{LINE_FEED}
 use Rattle.dict_value.specs.declared.value.AttrType.{AttrType}
 use Rattle.dict_value.specs.declared.value.FetchedRow.{FetchedRow}
-use Rattle.dict_value.specs.declared.value.Field.{Field}
-use Rattle.dict_value.specs.declared.value.Field.TheVariants as field
 use Rattle.dict_value.specs.declared.value.Format.{Format}
-use Rattle.dict_value.specs.declared.value.Format.TheVariants.{Tab, Csv}
 use Rattle.dict_value.specs.declared.value.MaybeRow.{MaybeRow}
 use Rattle.dict_value.specs.declared.value.MaybeRow.TheVariants.{Absent, Present}
 use Rattle.dict_value.specs.declared.value.Value.{Value}
-use Rattle.dict_value.specs.declared.value.Value.TheVariants.{Null}
-use Rattle.dict_value.specs.Values.{FitsColumn, value_text}
-use Rattle.row_text.specs.CsvRow.{csv_text}
-use Rattle.row_text.specs.TabRow.{row_line}
+use Rattle.dict_value.specs.Values.{FitsColumn}
+use Rattle.row_text.specs.Written.{written_row}
 use Rattle.cache_layout.specs.declared.fetch.TheConstants.{MOST_KEY_BYTES}
 
 -- the types of the key columns, in their order
 abbrev pub key_types : Definition → List AttrType
 key_types d = map (λ column. column.ty) (columns_at d Key d.keys)
-
--- the field that is written for a value
-abbrev pub written_field : AttrType → Value → Field
-written_field t Null = field.Null
-written_field t v = field.Text (value_text t.base v)
-
--- the fields that are written for a list of values, one for each type
-abbrev pub written_fields : List AttrType → List Value → List Field
-written_fields (t ∷ types) (v ∷ values) = written_field t v ∷ written_fields types values
-written_fields _ _ = []
-
--- the row that a child is sent for a list of values, its line feed included
-abbrev pub written_row : Format → List AttrType → List Value → List ℕ
-written_row Tab types values = row_line (written_fields types values) ++ LINE_FEED ∷ []
-written_row Csv types values = csv_text (written_fields types values)
 
 -- a child can be sent the values: each is one of its type, and their row isn't too long
 pub record CanBeSent (format : Format) (types : List AttrType) (values : List Value) : Type 0 where

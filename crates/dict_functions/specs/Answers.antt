@@ -14,7 +14,7 @@ use Rattle.dict_value.specs.declared.value.MaybeRow.TheVariants.{Absent, Present
 use Rattle.dict_value.specs.declared.value.Value.{Value}
 use Rattle.dict_version.specs.Contents.{Contents}
 use Rattle.dict_version.specs.Keys.{attribute_place}
-use Rattle.dict_version.specs.Printed.{printed}
+use Rattle.row_text.specs.Written.{printed}
 use Rattle.version_slot.specs.Views.{Entered}
 use Rattle.wire_text.specs.declared.reply.Line.{Line}
 use Rattle.wire_text.specs.declared.reply.Mark.{Mark}

@@ -1,6 +1,7 @@
 -- Why a lookup or a call is refused: the first reason in this order.
 use Rattle.std.specs.Prelude.{◌≡◌, ◌≢◌, ◌<◌, ◌∷◌, ◌++◌, ℕ, List, All, Bool, true, false, None, Ok, IsTrue, length, map}
-use Rattle.cache_layout.specs.Fetching.{key_types, written_row}
+use Rattle.cache_layout.specs.Fetching.{key_types}
+use Rattle.row_text.specs.Written.{written_row}
 use Rattle.cache_layout.specs.declared.fetch.TheConstants.{MOST_KEY_BYTES}
 use Rattle.dict_schema.specs.declared.definition.Column.{Column}
 use Rattle.dict_schema.specs.declared.definition.Definition.{Definition}

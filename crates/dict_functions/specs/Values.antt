@@ -11,7 +11,8 @@ use Rattle.dict_value.specs.declared.value.Value.TheVariants.{Null}
 use Rattle.dict_version.specs.Contents.{Contents}
 use Rattle.dict_version.specs.Keys.{attribute_place, numbers_of, parent_column, parents_of}
 use Rattle.dict_version.specs.Lookups.{Finds}
-use Rattle.dict_version.specs.Printed.{IsPrintedAt, printed}
+use Rattle.dict_version.specs.Printed.{IsPrintedAt}
+use Rattle.row_text.specs.Written.{printed}
 use Rattle.dict_version.specs.declared.key.Key.{Key}
 use Rattle.hier.specs.Hierarchy.{IsChain, IsDescendant, IsIn, IsRisingListOf}
 use Rattle.hier.specs.declared.hier.Parent.{Parent}

@@ -2,7 +2,7 @@
 ghost use Rattle.std.specs.Prelude.{◌≡◌, ◌++◌, ◌⊎◌, false, length, OnErr, OnOk};
 ghost use Rattle.dict_value.specs.Values.{FitsColumn};
 ghost use Rattle.dict_value.specs.declared.value.Value.TheVariants.{Null};
-ghost use Rattle.dict_version.specs.Printed.{printed};
+ghost use Rattle.row_text.specs.Written.{printed};
 ghost use Rattle.dict_functions.specs.Replies.{IsReplyOf};
 
 use dict_value::{AttrType, Bytes, ListOf, NoMemory, Value};

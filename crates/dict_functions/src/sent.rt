@@ -1,7 +1,7 @@
 // Rows of values as a child is sent them.
 ghost use Rattle.std.specs.Prelude.{◌≡◌, ◌≢◌, ◌++◌, ◌<◌, ◌≤◌, [], List, All, IfOk, IsOk, IsOkOf, OnOk, length, true, false};
 ghost use Rattle.std.specs.List.{AllZip};
-ghost use Rattle.cache_layout.specs.Fetching.{written_field, written_fields, written_row};
+ghost use Rattle.row_text.specs.Written.{written_field, written_fields, written_row};
 ghost use Rattle.cache_layout.specs.declared.fetch.TheConstants.{MOST_KEY_BYTES};
 ghost use Rattle.dict_value.specs.Values.{FitsColumn};
 ghost use Rattle.dict_value.specs.declared.value.Value.{Value as ValueOf};
@@ -14,7 +14,7 @@ use std::alloc::Global;
 /// The field that is written for a value.
 fn written_field(alloc: Global, ty: &AttrType, value: &Value) -> Result<Field, NoMemory>
     requires { FitsColumn ty.now value.now }
-    ensures { IfOk result (λ field. field ≡ written_field ty.now value.now) }
+    ensures { IfOk result (λ field. field ≡ written_field ty.now.base value.now) }
 {
     if let Value::Null = value {
         return Ok(Field::Null);

@@ -233,3 +233,48 @@ fn lookup_of(alloc: Global, lines: &[Bytes]) -> Option<Asked>
         _ => None,
     }
 }
+
+/// The reply to a lookup, as it is written; `none` where the lines are none.
+fn replied(
+    alloc: Global,
+    seen: &Seen<Version<Uncounted>>,
+    request: &[u8],
+) -> Result<Bytes, NoMemory> {
+    let lines = lines_of(alloc, request)?;
+    let mut out = Bytes::new(alloc);
+    match lookup_of(alloc, lines.as_slice()) {
+        Some(asked) => write_reply(&answer_loaded(alloc, seen, &asked), &mut out)?,
+        None => out.extend(b"none")?,
+    }
+    Ok(out)
+}
+
+static CASES: [&Case; 9] = [
+    &FLAT,
+    &HASHED,
+    &COMPLEX,
+    &RANGES,
+    &LATE_RANGES,
+    &ADDRESSES,
+    &SIXTH,
+    &PARENTS,
+    &TYPES,
+];
+
+#[test]
+fn worked_rows(rt: HostRuntime) -> Result<(), Fail> {
+    for (place, case) in CASES.iter().enumerate() {
+        let seen = seen_of(rt.alloc(), case);
+        assert!(rt; seen.is_some(), "case {place}");
+        if let Some(seen) = seen {
+            for (row, (request, wanted)) in case.replies.iter().enumerate() {
+                assert_eq!(rt;
+                    replied(rt.alloc(), &seen, request)?.as_slice(),
+                    *wanted,
+                    "case {place} row {row}"
+                );
+            }
+        }
+    }
+    Ok(())
+}
