@@ -14,7 +14,7 @@ use Rattle.uuid.specs.Text.{by_index, digit_place, hex_digit, is_hyphen_place, l
 use Rattle.uuid.proofs.TextLemmas.{nibble_small}
 use Rattle.jiff_core.proofs.CalendarLemmas.{days_in_month_bounds}
 use Rattle.dict_value.proofs.CivilDays.{civil_is, dated}
-use Rattle.dict_value.proofs.Digits.{both, digit_value_of}
+use Rattle.dict_value.proofs.Digits.{both, digit_value_of, few_digits}
 use Rattle.dict_value.proofs.WrittenAddresses.{v4_written, v6_written}
 use Rattle.dict_value.proofs.WrittenBytes.{v4_again, v6_again}
 use Rattle.dict_value.proofs.WrittenNumbers.{decimal_digits}
@@ -22,7 +22,14 @@ use Rattle.dict_value.specs.Addresses.{v4_in, v4_text, v6_in, v6_text}
 use Rattle.dict_value.specs.Dates.{civil, clock_text, date_text, day_text, second_text, two}
 use Rattle.dict_value.specs.Decimals.{decimal_text, fraction_text, last_digits, sign_text, without_end_zeros}
 use Rattle.dict_value.specs.Identifiers.{id_text}
-use Rattle.dict_value.specs.Numbers.{given}
+use Rattle.dict_value.specs.Numbers.{given, is_within}
+use Rattle.dict_value.specs.Values.{FitsColumn, HasType, value_text}
+use Rattle.dict_value.specs.declared.value.AttrType.{AttrType}
+use Rattle.dict_value.specs.declared.value.ColType.{ColType}
+use Rattle.dict_value.specs.declared.value.ColType.TheVariants as type
+use Rattle.dict_value.specs.declared.value.Value.{Value}
+use Rattle.dict_value.specs.declared.value.Value.TheVariants.{U, I, S, Day, Second, Id, V4, V6, Dec, Null}
+use Rattle.dict_version.specs.Printed.{printed}
 use Rattle.dict_value.specs.declared.value.BadValue.TheVariants.{BadAddress}
 use Rattle.row_text.specs.TabRow.{written_byte, written_letter}
 
@@ -220,3 +227,42 @@ pub IsPlain-id : (n : ℕ) → IsPlain (id_text n)
 IsPlain-id n =
     let xs = to_be_bytes w128 n in
     IsPlain-by_index (λ k. if is_hyphen_place k then 45 else hex_digit lower (nibble xs (digit_place k))) (place_plain xs) 36
+
+-- the magnitude of a signed number
+signed_small : (bound : ℕ) (z : ℤ) → is_within bound z ≡ true → bound < 10 ^ 64 → unsigned_abs z < 10 ^ 64
+signed_small bound (pos n) h few = grind (arith, nat_tests)
+signed_small bound (negsuc n) h few = grind (arith, nat_tests)
+
+-- the text of a value that isn't a String
+pub value_text-plain : (t : ColType) (v : Value) → HasType t v → ((text : List ℕ) → v ≢ S text) → IsPlain (value_text t v)
+unfolding value_text
+value_text-plain type.UInt8 (U n) h other = IsPlain-decimal n (omega (arith, h))
+value_text-plain type.UInt16 (U n) h other = IsPlain-decimal n (omega (arith, h))
+value_text-plain type.UInt32 (U n) h other = IsPlain-decimal n (omega (arith, h))
+value_text-plain type.UInt64 (U n) h other = IsPlain-decimal n (omega (arith, h))
+value_text-plain type.Int8 (I z) h other = IsPlain-signed z (signed_small (2 ^ 7) z h (omega arith))
+value_text-plain type.Int16 (I z) h other = IsPlain-signed z (signed_small (2 ^ 15) z h (omega arith))
+value_text-plain type.Int32 (I z) h other = IsPlain-signed z (signed_small (2 ^ 31) z h (omega arith))
+value_text-plain type.Int64 (I z) h other = IsPlain-signed z (signed_small (2 ^ 63) z h (omega arith))
+value_text-plain type.Str (S text) h other = absurd (other text refl)
+value_text-plain type.Date (Day n) h other = IsPlain-day n h
+value_text-plain type.DateTime (Second n) h other = IsPlain-second n h
+value_text-plain type.Uuid (Id n) h other = IsPlain-id n
+value_text-plain type.Ipv4 (V4 n) h other = IsPlain-v4 n h
+value_text-plain type.Ipv6 (V6 n) h other = IsPlain-v6 n h
+value_text-plain (type.Decimal digits scale) (Dec z) h other = IsPlain-decimal_text scale z (omega (arith, h, few_digits digits))
+value_text-plain t v h other = absurd h
+
+-- so it is printed as it is
+pub printed-plain : (t : AttrType) (v : Value) → FitsColumn t v → v ≢ Null → ((text : List ℕ) → v ≢ S text)
+    → printed t.base v ≡ value_text t.base v
+printed-plain t Null fits some other = absurd (some refl)
+printed-plain t (U n) fits some other = written-plain _ (value_text-plain t.base (U n) fits other)
+printed-plain t (I z) fits some other = written-plain _ (value_text-plain t.base (I z) fits other)
+printed-plain t (S text) fits some other = absurd (other text refl)
+printed-plain t (Day n) fits some other = written-plain _ (value_text-plain t.base (Day n) fits other)
+printed-plain t (Second n) fits some other = written-plain _ (value_text-plain t.base (Second n) fits other)
+printed-plain t (Id n) fits some other = written-plain _ (value_text-plain t.base (Id n) fits other)
+printed-plain t (V4 n) fits some other = written-plain _ (value_text-plain t.base (V4 n) fits other)
+printed-plain t (V6 n) fits some other = written-plain _ (value_text-plain t.base (V6 n) fits other)
+printed-plain t (Dec z) fits some other = written-plain _ (value_text-plain t.base (Dec z) fits other)

@@ -1,5 +1,5 @@
 -- What a sound definition has: not too many columns and keys, and the columns that its keys and its range name.
-use Rattle.std.proofs.Common.{◌≡◌, ◌<◌, ◌≤◌, ◌+◌, ◌++◌, ℕ, zero, suc, List, [], ◌∷◌, length, map, true, false, Some, None, inl, inr, arith, subst, refl, sym, ap, slice_get}
+use Rattle.std.proofs.Common.{◌≡◌, ◌<◌, ◌≤◌, ◌+◌, ◌++◌, ℕ, zero, suc, List, [], ◌∷◌, length, map, Bool, true, false, Some, None, inl, inr, arith, subst, refl, sym, ap, slice_get}
 use Rattle.std.specs.List.{range_with_len}
 use Rattle.std.proofs.lemmas.Bool.{cases_lt}
 use Rattle.std.proofs.lemmas.Option.{none-some, slice_get_within}
@@ -13,7 +13,6 @@ use Rattle.dict_schema.specs.declared.definition.RangeOf.TheVariants as range
 use Rattle.dict_schema.specs.declared.fault.DefFault.TheVariants as fault
 use Rattle.dict_schema.specs.declared.fault.Which.{Which}
 use Rattle.dict_schema.specs.declared.fault.Which.TheVariants as which
-use Rattle.row_text.proofs.Fitted.{column-at}
 
 -- both halves of a clear list of rules are clear
 halves_clear : (xs ys : List Rule) → AreClear (xs ++ ys) → AreClear xs × AreClear ys
@@ -73,3 +72,29 @@ module _ (d : Definition) (sound : IsSound d) where
         let at_k : IsClear (Where (fault.KeyMissing (k + 1)) (IsMissingKey d k)) = subst (λ (p : ℕ). IsClear (Where (fault.KeyMissing (p + 1)) (IsMissingKey d p))) same clear in
         absurd (at_k (fault.KeyMissing (k + 1)) (refl, (key, here, missing)))
   ]
+
+  -- the ends of the range are columns
+  no_range : is_range_layout d.layout ≡ false → (start end : ℕ) → d.range ≡ range.Columns start end → ⊥
+  no_range other start end is =
+      ranges_clear.1.0 fault.RangeUnused (refl, (other, λ none. absurd (cc (none, is))))
+
+  range_or : (b : Bool) → is_range_layout d.layout ≡ b → (start end : ℕ) → d.range ≡ range.Columns start end → (HasRange d → ⊥) → ⊥
+  range_or true wanted start end is none = ranges_clear.0 fault.RangeMissing (refl, (wanted, none))
+  range_or false wanted start end is none = no_range wanted start end is
+
+  -- an end without a column would leave no range
+  end_or : (place start end : ℕ) → d.range ≡ range.Columns start end → ((r : HasRange d) → place < length d.columns)
+      → place < length d.columns
+  end_or place start end is there = elim (cases_lt place (length d.columns)) [
+    | inl low ↦ low
+    | inr high ↦ absurd (range_or (is_range_layout d.layout) refl start end is (λ r. let low = there r in omega (arith, low, high)))
+  ]
+
+  pub range_there : (start end : ℕ) → d.range ≡ range.Columns start end → (start < length d.columns) × (end < length d.columns)
+  range_there start end is =
+      (end_or start start end is (λ r.
+      let same : r.start ≡ start = cc (is, r.range) in
+      let low = slice_get_within d.columns r.start r.first r.found_first in subst (λ (k : ℕ). k < length d.columns) same low),
+      end_or end start end is (λ r.
+      let same : r.end ≡ end = cc (is, r.range) in
+      let low = slice_get_within d.columns r.end r.last r.found_last in subst (λ (k : ℕ). k < length d.columns) same low))

@@ -1,11 +1,11 @@
 -- What a version keeps beside its rows.
-use Rattle.std.specs.Prelude.{◌≡◌, ◌≤◌, ℕ, List, Option, Some, None, MatchOption, length}
+use Rattle.std.specs.Prelude.{◌≡◌, ◌≤◌, ℕ, List, Option, MatchOption, length}
 use Rattle.dict_schema.specs.Sound.{IsSound}
 use Rattle.dict_schema.specs.declared.definition.Definition.{Definition}
 use Rattle.dict_value.specs.declared.value.AttrType.{AttrType}
 use Rattle.dict_value.specs.declared.value.TheConstants.{MOST_ROWS}
 use Rattle.dict_value.specs.declared.value.Value.{Value}
-use Rattle.dict_version.specs.Keys.{key_lists_of, numbers_of, parent_column, parents_of, ranges_of, texts_of}
+use Rattle.dict_version.specs.Keys.{NamesParent, key_lists_of, numbers_of, parents_of, ranges_of, texts_of}
 use Rattle.dict_version.specs.Lookups.{lookup_by}
 use Rattle.dict_version.specs.Rows.{LayoutTakes, TakesRows, cell_types}
 use Rattle.dict_version.specs.declared.index.Index.{Index}
@@ -23,11 +23,11 @@ use Rattle.range_layout.specs.Kept.{IsRangedOf}
 -- the hierarchy of the rows, by the column that names a parent
 abbrev pub IsHierarchyOf : Definition → List (List Value) → Hier → Type 0
 IsHierarchyOf d rows hier =
-    (column : ℕ) × (parent_column d ≡ Some column) × IsHierOf (numbers_of rows) (parents_of d column rows) hier
+    (column : ℕ) × NamesParent d column × IsHierOf (numbers_of rows) (parents_of d column rows) hier
 
 -- there is one exactly where a column names a parent
 abbrev pub HasHierarchy : Definition → List (List Value) → Option Hier → Type 0
-HasHierarchy d rows hier = MatchOption hier (parent_column d ≡ None) (IsHierarchyOf d rows)
+HasHierarchy d rows hier = MatchOption hier ((column : ℕ) → ¬ (NamesParent d column)) (IsHierarchyOf d rows)
 
 -- the index that a layout wants of the rows
 abbrev pub IsIndexBy : {S : Type 0} → LookupBy → Definition → List (List Value) → Index S → Type 0

@@ -1,6 +1,6 @@
 -- What rows are found by: the first columns of each row, as its layout looks at them.
-use Rattle.std.specs.Prelude.{◌+◌, ◌==◌, [], ◌∷◌, ℕ, pos, List, Bool, true, false, Option, Some, None}
-use Rattle.std.specs.Prelude.{if◌then◌else◌, count_by, filter, length, map, position, slice_get, take}
+use Rattle.std.specs.Prelude.{◌≡◌, ◌+◌, [], ℕ, pos, List, Bool, true, false, Option, Some, IsTrue}
+use Rattle.std.specs.Prelude.{filter, length, map, slice_get, take}
 use Rattle.std.specs.List.{range_with_len}
 use Rattle.dict_schema.specs.Parts.{is_attribute}
 use Rattle.dict_schema.specs.declared.definition.Column.{Column}
@@ -67,7 +67,7 @@ end_count (range.Columns start end) = 2
 -- the attributes before it.
 abbrev pub attribute_place : Definition → ℕ → ℕ
 attribute_place d column =
-    length d.keys + end_count d.range + count_by (is_attribute d) (range_with_len 0 column)
+    length d.keys + end_count d.range + length (filter (is_attribute d) (range_with_len 0 column))
 
 -- the parents that rows name by the attribute that is this column
 abbrev pub parents_of : Definition → ℕ → List (List Value) → List Parent
@@ -81,6 +81,8 @@ is_numbered layout.SparseHashed = true
 is_numbered layout.HashedArray = true
 is_numbered _ = false
 
--- the column that names a parent, where the layout has a hierarchy
-abbrev pub parent_column : Definition → Option ℕ
-parent_column d = if is_numbered d.layout then position (λ column. column.hierarchical) d.columns else None
+-- the column names a parent, and the layout has a hierarchy
+abbrev pub NamesParent : Definition → ℕ → Type 0
+NamesParent d place =
+    IsTrue (is_numbered d.layout)
+    × ((column : Column) × (slice_get d.columns place ≡ Some column) × IsTrue column.hierarchical)

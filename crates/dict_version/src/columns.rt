@@ -1,5 +1,5 @@
 // The columns of rows that an index is made of.
-ghost use Rattle.std.specs.Prelude.{◌≡◌, ◌≤◌, ◌<◌, List, Some, IfOk, IsTrue, count_by, length, map, slice_get, take};
+ghost use Rattle.std.specs.Prelude.{◌≡◌, ◌≤◌, ◌<◌, ℕ, List, Some, IfOk, IsTrue, MatchOption, filter, length, map, slice_get, take};
 ghost use Rattle.std.specs.List.{range_with_len};
 ghost use Rattle.std.specs.Option.{option_map};
 ghost use Rattle.dict_schema.specs.Parts.{is_attribute};
@@ -8,8 +8,8 @@ ghost use Rattle.dict_schema.specs.Sound.{IsSound};
 ghost use Rattle.dict_schema.specs.declared.definition.Column.{Column as ColumnOf};
 ghost use Rattle.dict_schema.specs.declared.definition.Role.TheVariants.{Attribute};
 ghost use Rattle.dict_value.specs.declared.value.Value.{Value as ValueOf};
-ghost use Rattle.dict_version.specs.Keys.{attribute_place, end_count, end_in, is_numbered, number_in, numbers_of};
-ghost use Rattle.dict_version.specs.Keys.{parent_column, parent_in, range_behind, text_in, texts_of};
+ghost use Rattle.dict_version.specs.Keys.{NamesParent, attribute_place, end_count, end_in, is_numbered, number_in};
+ghost use Rattle.dict_version.specs.Keys.{numbers_of, parent_in, range_behind, text_in, texts_of};
 ghost use Rattle.packed_rows.specs.Cells.{meaning};
 
 use dict_schema::{Definition, Layout, RangeOf, is_attribute};
@@ -184,7 +184,7 @@ fn end_count(range: &RangeOf) -> u32
 
 /// How many attributes there are before a column.
 fn attributes_before(d: &Definition, column: u32) -> u32
-    ensures count { result ≡ count_by (is_attribute d.now) (range_with_len 0 column) }
+    ensures count { result ≡ length (filter (is_attribute d.now) (range_with_len 0 column)) }
     ensures bound { result ≤ column }
 {
     let mut count = 0;
@@ -222,14 +222,16 @@ fn is_numbered(layout: &Layout) -> bool
 /// The column of the definition that names a parent, where the layout has a hierarchy.
 pub(crate) fn parent_column(d: &Definition) -> Option<u32>
     requires { length d.now.columns ≤ 64 }
-    ensures { result ≡ parent_column d.now }
+    ensures { MatchOption result ((column : ℕ) → ¬ (NamesParent d.now column)) (NamesParent d.now) }
 {
     if !is_numbered(&d.layout) {
         return None;
     }
-    d.columns
-        .as_slice()
-        .iter()
-        .position(|column| column.hierarchical)
-        .map(|place| place as u32)
+    let columns = d.columns.as_slice();
+    for place in 0..columns.len() {
+        if columns[place].hierarchical {
+            return Some(place as u32);
+        }
+    }
+    None
 }

@@ -10,7 +10,7 @@ ghost use Rattle.dict_value.specs.declared.value.TheConstants.{MOST_ROWS};
 ghost use Rattle.dict_value.specs.declared.value.Value.{Value as ValueOf};
 ghost use Rattle.dict_version.specs.Contents.{contents};
 ghost use Rattle.dict_version.specs.Kept.{HasHierarchy, IsHierarchyOf};
-ghost use Rattle.dict_version.specs.Keys.{parent_column};
+ghost use Rattle.dict_version.specs.Keys.{NamesParent};
 ghost use Rattle.dict_version.specs.Lookups.{Finds, TakesFew};
 ghost use Rattle.dict_version.specs.Printed.{IsPrintedAt};
 ghost use Rattle.dict_version.specs.Rows.{IsRefusedFor, LayoutTakes, TakesRows, cell_type, cell_types};
@@ -197,7 +197,7 @@ impl<S: Counter> Version<S> {
 
     /// The hierarchy of the keys, where the layout is FLAT or a simple hashed one and a column names a parent.
     pub fn hier(&self) -> Option<&Hier>
-        ensures { MatchOption result (parent_column self.now.definition ≡ None)
+        ensures { MatchOption result ((column : ℕ) → ¬ (NamesParent self.now.definition column))
             (λ hier. IsHierarchyOf self.now.definition self.now.rows hier.now) }
     {
         self.hier.as_ref()

@@ -1,0 +1,12 @@
+use Rattle.std.proofs.Common.{◌≡◌, ◌∷◌, ◌++◌, [], ◌∙◌, ap, arith, rules, slice_get}
+use Rattle.dict_version.specs.Keys.{number_in}
+use Rattle.dict_version.proofs.RowCells.{cell-of_row, row-grown}
+use Rattle.dict_version.proofs.columns.numbers_of.Goals as goal
+
+pub loop-place-preserved : goal.loop-place-preserved
+loop-place-preserved c =
+    let rows = c.args.rows.now in
+    let place = c.loop-place.place in
+    row-grown (λ row. number_in (slice_get row 0)) rows place c.loop-place.numbers.items c.push.new.self.items _
+    c.loop-place.invariant (omega arith) (search rules)
+    (λ row here. c.number_in.ensures ∙ ap number_in (c.get.ensures ∙ cell-of_row rows place 0 row here))
