@@ -1,5 +1,6 @@
 -- Lemmas of this crate.
 pub mod AttributePlaces
 pub mod PlainTexts
+pub mod RangeLookups
 pub mod RowCells
 pub mod SoundParts

@@ -88,7 +88,8 @@ fn ranges<S: Counter>(
     rows: &Rows,
     strategy: Strategy,
 ) -> Result<Index<S>, NoMemory>
-    requires { length rows.now ≤ MOST_ROWS }
+    requires sound { IsSound d.now }
+    requires few { length rows.now ≤ MOST_ROWS }
     ensures { IfOk result (IsIndexBy (by.Range strategy) d.now rows.now) }
 {
     let lists = first_values_of(alloc, rows, d.keys.len())?;
@@ -120,8 +121,9 @@ impl<S: Counter> Index<S> {
         d: &Definition,
         rows: &Rows,
     ) -> Result<Index<S>, LayoutFault>
-        requires few { length rows.now ≤ MOST_ROWS }
+        requires sound { IsSound d.now }
         requires kept { is_keyed_layout d.now.layout ≡ false }
+        requires few { length rows.now ≤ MOST_ROWS }
         ensures index { IfOk result (IsIndexBy (lookup_by d.now.layout) d.now rows.now) }
         ensures taken { OnOk result (LayoutTakes d.now rows.now) }
         ensures refused { UnlessNoMemory (Err fault.NoMemory) result
