@@ -1,7 +1,7 @@
 //! Times the answers to lookups from one version. On standard input stand, with a byte 0 between them, a definition, the
 //! rows that its program would print, and requests with their lines. The word is a number of rounds: the program prints
-//! how many rows, requests and keys there are, and how many bytes the answers have, and, for more than no rounds, the
-//! nanoseconds of the shortest round. The words `0 wait` make it wait for another byte on its input before it ends.
+//! how many rows and requests there are, then how many values were answered, how many lookups were refused and how many
+//! bytes the values have, and, for more than no rounds, the nanoseconds of the shortest round.
 #![tactic(auto)]
 
 mod input;
