@@ -5,3 +5,4 @@ pub mod Refusals
 pub mod Values
 pub mod Replies
 pub mod Answers
+pub mod steps

@@ -1,0 +1,61 @@
+-- What is made of the lines of a lookup, and what their faults mean.
+use Rattle.std.specs.Prelude.{◌≡◌, ℕ, List, Result, MatchResult}
+use Rattle.std.specs.List.{AllZip}
+use Rattle.dict_schema.specs.declared.definition.Column.{Column}
+use Rattle.dict_schema.specs.declared.definition.Definition.{Definition}
+use Rattle.dict_value.specs.declared.value.FetchedRow.{FetchedRow}
+use Rattle.dict_value.specs.declared.value.Value.{Value}
+use Rattle.dict_version.specs.Contents.{Contents}
+use Rattle.row_text.specs.Written.{printed}
+use Rattle.wire_text.specs.declared.reply.Line.{Line}
+use Rattle.wire_text.specs.declared.reply.ReplyFault.{ReplyFault}
+use Rattle.wire_text.specs.declared.reply.ReplyFault.TheVariants as fault
+use Rattle.wire_text.specs.declared.request.Asked.{Asked}
+use Rattle.wire_text.specs.declared.request.Verb.{Verb}
+use Rattle.wire_text.specs.declared.request.Verb.TheVariants as verb
+use Rattle.dict_functions.specs.Answers.{IsLoadedLine, is_present}
+use Rattle.dict_functions.specs.Asking.{IsAttributeNamed}
+use Rattle.dict_functions.specs.Refusals.{IsFitting, IsRefusal}
+use Rattle.dict_functions.specs.Values.{StandsIn, flag}
+use Rattle.dict_functions.specs.declared.asking.Attribute.{Attribute}
+use Rattle.dict_functions.specs.declared.lines.LineFault.{LineFault}
+use Rattle.dict_functions.specs.declared.lines.LineFault.TheVariants as one
+use Rattle.dict_functions.specs.declared.lines.LinesFault.{LinesFault}
+use Rattle.dict_functions.specs.declared.lines.LinesFault.TheVariants as several
+
+-- the lines of a lookup in a version, or why it is refused
+abbrev pub Answered : Contents → Asked → Result (List Line) ReplyFault → Type 0
+Answered c q result =
+    MatchResult result (λ lines. IsFitting c.definition q × AllZip (IsLoadedLine c q) q.lines lines)
+        (IsRefusal c.definition q)
+
+-- the attribute that is asked for, and the text of what stands in for it
+pub record IsAttributeOf (d : Definition) (q : Asked) (attribute : Attribute) : Type 0 where
+  pub column : Column
+  pub value : Value
+  pub named : IsAttributeNamed d q.attribute attribute.place column
+  pub stands : StandsIn q.verb column q.fallback value
+  pub missing : attribute.missing ≡ printed column.ty.base value
+
+-- how many numbers a line has by which a hierarchy is asked
+abbrev pub key_count : Verb → ℕ
+key_count verb.IsIn = 2
+key_count _ = 1
+
+-- the line of the question whether a row came
+abbrev pub IsHasLine : FetchedRow → Line → Type 0
+IsHasLine fetched line = (line.moment ≡ fetched.moment) × (line.text ≡ flag (is_present fetched.row))
+
+-- what the first unread line means for keys, and for arguments
+abbrev pub key_fault : LinesFault → ReplyFault
+key_fault (several.Unread line) = fault.BadKey line
+key_fault several.NoMemory = fault.NoMemory
+
+abbrev pub argument_fault : LinesFault → ReplyFault
+argument_fault (several.Unread line) = fault.BadArgument line
+argument_fault several.NoMemory = fault.NoMemory
+
+-- what an unread default means
+abbrev pub default_fault : LineFault → ReplyFault
+default_fault one.Unread = fault.BadArgument 0
+default_fault one.NoMemory = fault.NoMemory
