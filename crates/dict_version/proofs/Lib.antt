@@ -4,3 +4,4 @@ pub mod PlainTexts
 pub mod RangeLookups
 pub mod RowCells
 pub mod SoundParts
+pub mod VersionCells

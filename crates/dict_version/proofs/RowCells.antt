@@ -54,6 +54,13 @@ pair-at R (x ∷ xs) (y ∷ ys) (suc i) all low =
     let rest = pair-at R xs ys i all.1 (omega (arith, low)) in
     record { left = rest.left; right = rest.right; left_at = rest.left_at; right_at = rest.right_at; related = rest.related }
 
+-- both are as long
+pub zip-count : {A B : Type 0} (R : A → B → Type 0) (xs : List A) (ys : List B) → AllZip R xs ys → length ys ≡ length xs
+zip-count R [] [] all = refl
+zip-count R [] (y ∷ ys) all = absurd all
+zip-count R (x ∷ xs) [] all = absurd all
+zip-count R (x ∷ xs) (y ∷ ys) all = ap suc (zip-count R xs ys all.1)
+
 -- where each row fits types, there is a cell in each column, which fits its type
 pub record HasFittingCell (types : List AttrType) (rows : List (List Value)) (place column : ℕ) : Type 0 where
   pub value : Value

@@ -1,5 +1,5 @@
 // The index of a row list that a layout wants.
-ghost use Rattle.std.specs.Prelude.{◌≡◌, ◌≤◌, List, Err, false, IfErr, IfOk, OnOk, length};
+ghost use Rattle.std.specs.Prelude.{◌≡◌, ◌≤◌, ◌+◌, ℕ, List, Err, false, IfErr, IfOk, OnOk, length};
 ghost use Rattle.dict_schema.specs.Parts.{is_keyed_layout};
 ghost use Rattle.dict_schema.specs.Sound.{IsSound};
 ghost use Rattle.dict_schema.specs.declared.definition.Definition.{Definition as DefinitionOf};
@@ -13,6 +13,11 @@ ghost use Rattle.dict_version.specs.declared.fault.LayoutFault.TheVariants as fa
 ghost use Rattle.dict_version.specs.declared.lookup.LookupBy.{LookupBy as LookupByOf};
 ghost use Rattle.dict_version.specs.declared.lookup.LookupBy.TheVariants as by;
 
+ghost use Rattle.dict_schema.specs.declared.definition.Strategy.{Strategy as StrategyOf};
+ghost use Rattle.range_layout.specs.FindByRange.{AreRowsWith, FindsByRange};
+ghost use Rattle.range_layout.specs.Kept.{AreFew, IsRangedOf};
+ghost use Rattle.range_layout.specs.declared.ends.Ends.{Ends as EndsOf};
+
 use crate::columns::{
     attribute_place, first_values_of, numbers_of, parent_column, parents_at, ranges_of, texts_of,
 };
@@ -20,7 +25,7 @@ use crate::fault::LayoutFault;
 use crate::key::Key;
 use crate::lookup::{LookupBy, lookup_by};
 use dict_schema::{Definition, Strategy};
-use dict_value::{Address, Counter, NoMemory};
+use dict_value::{Address, Counter, KeyList, NoMemory};
 use flat_layout::{Flat, FlatFault};
 use hashed_layout::{Complex, Hashed};
 use hier::Hier;
@@ -114,6 +119,26 @@ fn prefixes<S: Counter>(alloc: Global, rows: &Rows) -> Result<Index<S>, LayoutFa
     }
 }
 
+/// The row of some values whose range holds a point.
+#[inline(always)]
+fn find_at<S: Counter>(
+    ranged: &Ranged<S>,
+    values: &KeyList,
+    point: &i128,
+    steps: &mut S,
+) -> Option<u32>
+    ensures found { (keys : List (List ValueOf)) (ends : List EndsOf) (strategy : StrategyOf)
+        → IsRangedOf keys ends strategy ranged.now.keys ranged.now.spans ranged.now.edges ranged.now.winners
+        → FindsByRange keys ends strategy values.now point.now result }
+    ensures steps { (keys : List (List ValueOf)) (ends : List EndsOf) (strategy : StrategyOf)
+        → IsRangedOf keys ends strategy ranged.now.keys ranged.now.spans ranged.now.edges ranged.now.winners
+        → (with_key : List ℕ) → AreRowsWith keys values.now with_key
+        → (s : ℕ) × AreFew (length with_key) s × (S.amount steps.new ≤ S.amount steps.old + s) }
+{
+    let point = *point;
+    ranged.find(values, point, steps)
+}
+
 impl<S: Counter> Index<S> {
     /// The index that the layout of a definition wants.
     pub(crate) fn build(
@@ -152,7 +177,7 @@ impl<S: Counter> Index<S> {
             (Index::Numbers(table), Key::Simple(number)) => table.find(*number),
             (Index::KeyLists(table), Key::List(values)) => table.find(values),
             (Index::Ranges(ranged), Key::Ranged(values, point)) => {
-                ranged.find(values, *point, steps)
+                find_at(ranged, values, point, steps)
             }
             (Index::Prefixes(trie), Key::V4(bits)) => trie.find(&Address::V4(*bits), steps),
             (Index::Prefixes(trie), Key::V6(bits)) => trie.find(&Address::V6(*bits), steps),

@@ -200,6 +200,9 @@ impl<S: Counter> Version<S> {
         ensures { MatchOption result ((column : ℕ) → ¬ (NamesParent self.now.definition column))
             (λ hier. IsHierarchyOf self.now.definition self.now.rows hier.now) }
     {
-        self.hier.as_ref()
+        match &self.hier {
+            Some(hier) => Some(hier),
+            None => None,
+        }
     }
 }

@@ -5,10 +5,10 @@ pub returns-in-Ranges-Ranged-clause-found : goal.returns-in-Ranges-Ranged-clause
 returns-in-Ranges-Ranged-clause-found g c = λ wanted d rows is.
     let here = rw c.in-Ranges-Ranged.is-0 at is in
     rw c.in-Ranges-Ranged.is-1
-    (ranges-find d rows c.in-Ranges-Ranged.ranged c.in-Ranges-Ranged.values c.in-Ranges-Ranged.point wanted _ c.find-in-Ranges-Ranged.ensures.found here)
+    (ranges-find d rows c.in-Ranges-Ranged.ranged c.in-Ranges-Ranged.values c.in-Ranges-Ranged.point wanted _ c.find_at.ensures.found here)
 
 pub returns-in-Ranges-Ranged-clause-steps : goal.returns-in-Ranges-Ranged-clause-steps
 returns-in-Ranges-Ranged-clause-steps g c = λ wanted d rows is.
     let here = rw c.in-Ranges-Ranged.is-0 at is in
     rw c.in-Ranges-Ranged.is-1
-    (ranges-step d rows c.in-Ranges-Ranged.ranged c.in-Ranges-Ranged.values c.in-Ranges-Ranged.point wanted _ _ c.find-in-Ranges-Ranged.ensures.steps here)
+    (ranges-step d rows c.in-Ranges-Ranged.ranged c.in-Ranges-Ranged.values c.in-Ranges-Ranged.point wanted _ _ c.find_at.ensures.steps here)
