@@ -29,9 +29,9 @@ use Rattle.dict_value.specs.declared.value.ColType.{ColType}
 use Rattle.dict_value.specs.declared.value.ColType.TheVariants as type
 use Rattle.dict_value.specs.declared.value.Value.{Value}
 use Rattle.dict_value.specs.declared.value.Value.TheVariants.{U, I, S, Day, Second, Id, V4, V6, Dec, Null}
-use Rattle.dict_version.specs.Printed.{printed}
 use Rattle.dict_value.specs.declared.value.BadValue.TheVariants.{BadAddress}
 use Rattle.row_text.specs.TabRow.{written_byte, written_letter}
+use Rattle.row_text.specs.Written.{printed}
 
 -- a byte that is written as it is
 pub record IsPlainByte (b : ℕ) : Type 0 where

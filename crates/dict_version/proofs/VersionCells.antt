@@ -6,19 +6,19 @@ use Rattle.std.specs.Option.{option_map}
 use Rattle.std.specs.List.{AllZip}
 use Rattle.std.specs.Prelude.{All}
 use Rattle.std.proofs.lemmas.Option.{get_or_from_slice_get, same_Some, slice_get-map}
-use Rattle.dict_schema.specs.Shapes.{shape_of}
+use Rattle.dict_schema.specs.Shapes.{cell_type, cell_types, shape_of}
 use Rattle.dict_schema.specs.declared.definition.Definition.{Definition}
 use Rattle.dict_value.specs.Values.{FitsColumn}
 use Rattle.dict_value.specs.declared.value.AttrType.{AttrType}
 use Rattle.dict_value.specs.declared.value.Value.{Value}
 use Rattle.dict_version.specs.Contents.{Contents}
 use Rattle.dict_version.specs.Kept.{IsVersion}
-use Rattle.dict_version.specs.Printed.{IsPrintedAt, printed}
-use Rattle.dict_version.specs.Rows.{cell_type, cell_types}
+use Rattle.dict_version.specs.Printed.{IsPrintedAt}
 use Rattle.dict_version.specs.declared.index.Index.{Index}
 use Rattle.dict_version.proofs.RowCells.{HasFittingCell, cell-fits, item-at, row-at, zip-count}
 use Rattle.hier.specs.declared.hier.Hier.{Hier}
 use Rattle.packed_rows.specs.Columns.{cell_at}
+use Rattle.row_text.specs.Written.{printed}
 
 pub is-some : {A : Type 0} (o : Option A) (x : A) → o ≡ Some x → IsSome o
 is-some o x is = rw is refl

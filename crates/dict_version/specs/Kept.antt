@@ -1,5 +1,6 @@
 -- What a version keeps beside its rows.
 use Rattle.std.specs.Prelude.{◌≡◌, ◌≤◌, ℕ, List, Option, MatchOption, length}
+use Rattle.dict_schema.specs.Shapes.{cell_types, shape_of}
 use Rattle.dict_schema.specs.Sound.{IsSound}
 use Rattle.dict_schema.specs.declared.definition.Definition.{Definition}
 use Rattle.dict_value.specs.declared.value.AttrType.{AttrType}
@@ -7,7 +8,7 @@ use Rattle.dict_value.specs.declared.value.TheConstants.{MOST_ROWS}
 use Rattle.dict_value.specs.declared.value.Value.{Value}
 use Rattle.dict_version.specs.Keys.{NamesParent, key_lists_of, numbers_of, parents_of, ranges_of, texts_of}
 use Rattle.dict_version.specs.Lookups.{lookup_by}
-use Rattle.dict_version.specs.Rows.{LayoutTakes, TakesRows, cell_types}
+use Rattle.dict_version.specs.Rows.{LayoutTakes, TakesRows}
 use Rattle.dict_version.specs.declared.index.Index.{Index}
 use Rattle.dict_version.specs.declared.index.Index.TheVariants as index
 use Rattle.dict_version.specs.declared.lookup.LookupBy.{LookupBy}
@@ -47,6 +48,6 @@ pub record IsVersion {S : Type 0} (d : Definition) (rows : List (List Value)) (t
   pub few : length rows ≤ MOST_ROWS
   pub takes : TakesRows d rows
   pub taken : LayoutTakes d rows
-  pub types_are : types ≡ cell_types d
+  pub types_are : types ≡ cell_types (shape_of d)
   pub index_is : IsIndexBy (lookup_by d.layout) d rows index
   pub hier_is : HasHierarchy d rows hier

@@ -1,14 +1,10 @@
 -- Which rows a definition takes, and why a list of rows makes no version.
-use Rattle.std.specs.Prelude.{◌<◌, ◌||◌, ℕ, Bool, true, false, List, All, IsSome, map, ⊤}
+use Rattle.std.specs.Prelude.{◌<◌, List, All, IsSome, ⊤}
 use Rattle.std.specs.List.{AllZip}
-use Rattle.dict_schema.specs.Shapes.{shape_of}
+use Rattle.dict_schema.specs.Shapes.{cell_types, shape_of}
 use Rattle.dict_schema.specs.declared.definition.Definition.{Definition}
-use Rattle.dict_schema.specs.declared.definition.Role.{Role}
-use Rattle.dict_schema.specs.declared.definition.Role.TheVariants as role
-use Rattle.dict_schema.specs.declared.definition.ShapeColumn.{ShapeColumn}
 use Rattle.dict_value.specs.Addresses.{prefix_in}
 use Rattle.dict_value.specs.Values.{FitsColumn}
-use Rattle.dict_value.specs.declared.value.AttrType.{AttrType}
 use Rattle.dict_value.specs.declared.value.Value.{Value}
 use Rattle.dict_version.specs.Keys.{numbers_of, texts_of}
 use Rattle.dict_version.specs.Lookups.{lookup_by}
@@ -19,23 +15,10 @@ use Rattle.dict_version.specs.declared.fault.LayoutFault.TheVariants as fault
 use Rattle.flat_layout.specs.Cells.{IsFirstTooLarge}
 use Rattle.ip_trie.specs.FindByAddress.{IsFirstBad}
 
--- whether NULL stands for an end of a range that is open
-abbrev pub may_be_open : Role → Bool
-may_be_open role.Start = true
-may_be_open role.End = true
-may_be_open _ = false
-
--- the type of the values in a column of a row
-abbrev pub cell_type : ShapeColumn → AttrType
-cell_type column = record { base = column.ty.base; nullable = may_be_open column.role || column.ty.nullable }
-
-abbrev pub cell_types : Definition → List AttrType
-cell_types d = map cell_type (shape_of d)
-
 -- each row has a value for each column of the shape: one of its type, or NULL where the type allows it or an end of the
 -- range is open
 abbrev pub TakesRows : Definition → List (List Value) → Type 0
-TakesRows d rows = All (AllZip FitsColumn (cell_types d)) rows
+TakesRows d rows = All (AllZip FitsColumn (cell_types (shape_of d))) rows
 
 -- the layout takes the rows: FLAT those whose keys are below its limit, IP_TRIE those whose keys are prefixes, and the
 -- others all

@@ -2,7 +2,7 @@
 ghost use Rattle.std.specs.Prelude.{◌≡◌, ◌≢◌, ◌++◌, ℕ, List, OnErr, OnOk};
 ghost use Rattle.dict_value.specs.Values.{FitsColumn};
 ghost use Rattle.dict_value.specs.declared.value.Value.TheVariants.{Null, S};
-ghost use Rattle.dict_version.specs.Printed.{printed};
+ghost use Rattle.row_text.specs.Written.{printed};
 ghost use Rattle.packed_rows.specs.Cells.{meaning};
 
 use dict_value::{AttrType, Bytes, NoMemory, Value, write_value};

@@ -5,7 +5,7 @@ ghost use Rattle.dict_schema.specs.Parts.{is_keyed_layout};
 ghost use Rattle.dict_schema.specs.Sound.{IsSound, IsSoundBase, IsSoundType};
 ghost use Rattle.dict_value.specs.Values.{FitsColumn};
 ghost use Rattle.dict_value.specs.declared.value.TheConstants.{MOST_ROWS};
-ghost use Rattle.dict_version.specs.Rows.{TakesRows, cell_types};
+ghost use Rattle.dict_version.specs.Rows.{TakesRows};
 ghost use Rattle.packed_rows.specs.Cells.{meaning};
 
 use crate::version::cell_types;
@@ -100,13 +100,21 @@ fn is_sound_base(base: ColType) -> bool
 fn is_sound(d: &Definition) -> bool
     ensures { IsTrue result → IsSound d.now }
 {
-    if check(d).is_err() {
-        return false;
+    match check(d) {
+        Ok(()) => has_sound_types(d.columns.as_slice()),
+        Err(_) => false,
     }
-    d.columns
-        .as_slice()
-        .iter()
-        .all(|column| is_sound_base(column.ty.base))
+}
+
+fn has_sound_types(columns: &[Column]) -> bool
+    ensures { IsTrue result → All (λ column. IsSoundType column.ty) columns.now }
+{
+    for place in 0..columns.len() {
+        if !is_sound_base(columns[place].ty.base) {
+            return false;
+        }
+    }
+    true
 }
 
 /// These rows in packed columns; one that doesn't fit its columns is no row.

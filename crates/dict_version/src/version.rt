@@ -2,7 +2,7 @@
 ghost use Rattle.std.specs.Prelude.{◌≡◌, ◌++◌, ◌<◌, ◌≤◌, ℕ, List, Err, false, Some, None, IfErr, IfOk, IfSome, MatchOption};
 ghost use Rattle.std.specs.Prelude.{OnErr, OnOk, length, min, slice_get};
 ghost use Rattle.dict_schema.specs.Parts.{is_keyed_layout};
-ghost use Rattle.dict_schema.specs.Shapes.{shape_of};
+ghost use Rattle.dict_schema.specs.Shapes.{cell_types, shape_of};
 ghost use Rattle.dict_schema.specs.Sound.{IsSound};
 ghost use Rattle.dict_value.specs.Memory.{UnlessNoMemory};
 ghost use Rattle.dict_value.specs.Values.{IsStringValue};
@@ -13,7 +13,7 @@ ghost use Rattle.dict_version.specs.Kept.{HasHierarchy, IsHierarchyOf};
 ghost use Rattle.dict_version.specs.Keys.{NamesParent};
 ghost use Rattle.dict_version.specs.Lookups.{Finds, TakesFew};
 ghost use Rattle.dict_version.specs.Printed.{IsPrintedAt};
-ghost use Rattle.dict_version.specs.Rows.{IsRefusedFor, LayoutTakes, TakesRows, cell_type, cell_types};
+ghost use Rattle.dict_version.specs.Rows.{IsRefusedFor, LayoutTakes, TakesRows};
 ghost use Rattle.dict_version.specs.declared.fault.LayoutFault.TheVariants as fault;
 ghost use Rattle.packed_rows.specs.Columns.{cell_at};
 ghost use Rattle.packed_rows.specs.Packs.{stored_size};
@@ -22,7 +22,7 @@ use crate::fault::LayoutFault;
 use crate::index::{Index, hierarchy_of};
 use crate::key::Key;
 use crate::print::print_cell;
-use dict_schema::{Definition, Role, ShapeColumn, shape};
+use dict_schema::{Definition, cell_type, shape};
 use dict_value::{AttrType, Bytes, Counter, ListOf, NoMemory, Row, Value};
 use hier::Hier;
 use packed_rows::{Rows, value_of};
@@ -52,20 +52,9 @@ impl<S> Model for Version<S> {
     ghost invariant = { λ it. IsVersion it.definition it.rows it.types it.index it.hier };
 }
 
-/// The type of the values in a column of a row.
-fn cell_type(column: &ShapeColumn) -> AttrType
-    ensures { result ≡ cell_type column.now }
-{
-    let may_be_open = matches!(column.role, Role::Start | Role::End);
-    AttrType {
-        base: column.ty.base,
-        nullable: may_be_open || column.ty.nullable,
-    }
-}
-
 /// The types of the values of a row, in its order.
 pub(crate) fn cell_types(alloc: Global, d: &Definition) -> Result<ListOf<AttrType>, NoMemory>
-    ensures { IfOk result (λ types. types ≡ cell_types d.now) }
+    ensures { IfOk result (λ types. types ≡ cell_types (shape_of d.now)) }
 {
     let columns = shape(alloc, d)?;
     let mut types = ListOf::with_room(alloc, columns.len())?;
@@ -141,7 +130,7 @@ impl<S: Counter> Version<S> {
     /// How many bytes the rows take: for each column its cells and, where it may hold NULL, a bit for each row; and
     /// all texts once. At most the greatest number of 64 bits is told.
     pub fn stored(&self) -> u64
-        ensures { result ≡ min (stored_size (cell_types self.now.definition) self.now.rows) u64.MAX }
+        ensures { result ≡ min (stored_size (cell_types (shape_of self.now.definition)) self.now.rows) u64.MAX }
     {
         self.rows.stored(self.types.as_slice())
     }

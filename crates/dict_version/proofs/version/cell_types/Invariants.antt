@@ -1,5 +1,5 @@
 use Rattle.std.proofs.Common.{◌≡◌, map, take}
-use Rattle.dict_version.specs.Rows.{cell_type}
+use Rattle.dict_schema.specs.Shapes.{cell_type}
 use Rattle.dict_version.proofs.version.cell_types.Given as goal
 
 abbrev pub invariant-loop-column : goal.invariant-loop-column
