@@ -5,7 +5,7 @@ use dict_schema::{Kind, Lifetime};
 use dict_value::{Bytes, ListOf};
 
 #[derive(Clone, Copy, Debug, PartialEq, Eq)]
-pub(crate) enum ClauseKind {
+pub enum ClauseKind {
     Source,
     Layout,
     Lifetime,
@@ -16,16 +16,16 @@ pub(crate) enum ClauseKind {
 
 /// The kind of a source, and its settings in the order of the text.
 #[derive(Debug, Drop)]
-pub(crate) struct WrittenSource {
-    pub(crate) kind: Kind,
-    pub(crate) settings: ListOf<Setting>,
+pub struct WrittenSource {
+    pub kind: Kind,
+    pub settings: ListOf<Setting>,
 }
 
 /// A layout's name, and its settings in the order of the text.
 #[derive(Debug, Drop)]
-pub(crate) struct WrittenLayout {
-    pub(crate) name: LayoutName,
-    pub(crate) settings: ListOf<Setting>,
+pub struct WrittenLayout {
+    pub name: LayoutName,
+    pub settings: ListOf<Setting>,
 }
 
 /// The names of the columns of a range.
@@ -36,7 +36,7 @@ pub struct RangeNames {
 }
 
 #[derive(Debug, Drop)]
-pub(crate) enum Clause {
+pub enum Clause {
     Source(WrittenSource),
     Layout(WrittenLayout),
     Lifetime(Lifetime),

@@ -9,7 +9,7 @@ use crate::settings::Section;
 use ddl_tokens::{LetterCase, ReadFault, Reader, SyntaxFault};
 
 #[derive(Clone, Copy, Debug, PartialEq, Eq)]
-pub(crate) enum LayoutName {
+pub enum LayoutName {
     Flat,
     Hashed,
     SparseHashed,

@@ -23,9 +23,11 @@ mod parts;
 mod reading;
 mod settings;
 
-pub use clause::RangeNames;
+pub use clause::{Clause, ClauseKind, RangeNames, WrittenLayout, WrittenSource};
 use ddl_tokens::{ReadFault, Reader};
+pub use layouts::LayoutName;
 pub use parts::{DictionaryParts, FunctionParts, Sizes};
+pub use settings::{Form, Group, Owner, Section, Setting, SettingName, SettingValue};
 use std::alloc::Global;
 
 /// The clauses of a dictionary, up to the token that begins none.

@@ -8,7 +8,7 @@ use dict_value::Bytes;
 
 /// A setting of a source or a layout.
 #[derive(Clone, Copy, Debug, PartialEq, Eq)]
-pub(crate) enum SettingName {
+pub enum SettingName {
     Command,
     Format,
     ExecuteDirect,
@@ -34,7 +34,7 @@ pub(crate) enum SettingName {
 
 /// What the value of a setting looks like.
 #[derive(Clone, Copy, Debug, PartialEq, Eq)]
-pub(crate) enum Form {
+pub enum Form {
     /// A string.
     Text,
     /// The name of a text form of rows.
@@ -55,7 +55,7 @@ pub(crate) enum Form {
 
 /// Settings that stand in the same lists.
 #[derive(Clone, Copy, Debug, PartialEq, Eq)]
-pub(crate) enum Group {
+pub enum Group {
     Run,
     Implicit,
     Update,
@@ -68,7 +68,7 @@ pub(crate) enum Group {
 
 /// What a list of settings belongs to.
 #[derive(Clone, Copy, Debug, PartialEq, Eq)]
-pub(crate) enum Section {
+pub enum Section {
     Executable,
     Pool,
     FunctionExecutable,
@@ -83,14 +83,14 @@ pub(crate) enum Section {
 
 /// Whose source it is.
 #[derive(Clone, Copy, Debug, PartialEq, Eq)]
-pub(crate) enum Owner {
+pub enum Owner {
     Dictionary,
     Function,
 }
 
 /// The value of a setting.
 #[derive(Debug, Drop)]
-pub(crate) enum SettingValue {
+pub enum SettingValue {
     Text(Bytes),
     Format(Format),
     Flag(bool),
@@ -101,9 +101,9 @@ pub(crate) enum SettingValue {
 
 /// A setting as it is written.
 #[derive(Debug, Drop)]
-pub(crate) struct Setting {
-    pub(crate) name: SettingName,
-    pub(crate) value: SettingValue,
+pub struct Setting {
+    pub name: SettingName,
+    pub value: SettingValue,
 }
 
 pub(crate) fn setting_number(name: SettingName) -> u8

@@ -19,7 +19,8 @@ pub use arguments::read_arguments;
 pub use columns::read_columns;
 pub use keys::read_key;
 pub use laws::a_bad_default_fits_no_type;
-pub use types::read_type;
+pub use marks::Mark;
+pub use types::{BaseName, TypeName, read_type};
 
 #[cfg(test)]
 mod tests;

@@ -11,7 +11,7 @@ use std::alloc::Global;
 
 /// What a column says of itself.
 #[derive(Clone, Copy)]
-pub(crate) enum Mark {
+pub enum Mark {
     Hierarchical,
     ObjectId,
     Injective,

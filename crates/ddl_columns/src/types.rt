@@ -20,7 +20,7 @@ use std::alloc::Global;
 
 /// What the name of a type says, NULL aside.
 #[derive(Clone, Copy)]
-pub(crate) enum BaseName {
+pub enum BaseName {
     /// The type itself.
     Plain(ColType),
     DateTime,
@@ -31,7 +31,7 @@ pub(crate) enum BaseName {
 
 /// What the name of a type says.
 #[derive(Clone, Copy)]
-pub(crate) enum TypeName {
+pub enum TypeName {
     Nullable,
     Base(BaseName),
 }

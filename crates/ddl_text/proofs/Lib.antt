@@ -1,3 +1,14 @@
+mod Spelt
+mod Quoting
+mod ValueTexts
+mod TypeTexts
+mod ColumnTexts
+mod SettingTexts
+mod SourceTexts
+mod LayoutTexts
+mod ClauseTexts
+mod Restored
+mod ItemTexts
 mod Ahead
 mod NameLaws
 mod StatementLaws

@@ -7,7 +7,7 @@ use Rattle.ddl_tokens.specs.Letters.{folded, same_letters}
 use Rattle.ddl_tokens.proofs.Laws.{same_itself, test_cases}
 use Rattle.ddl_text.specs.Items.{same_name}
 
-same_bytes : (a b : List ℕ) → same_letters AsWritten a b ≡ true → a ≡ b
+pub same_bytes : (a b : List ℕ) → same_letters AsWritten a b ≡ true → a ≡ b
 unfolding same_letters
 same_bytes [] [] e = refl
 same_bytes [] (y ∷ b) e = absurd cc

@@ -5,3 +5,4 @@ pub mod Grammar
 pub mod Reading
 pub mod Items
 pub mod Files
+pub mod Again

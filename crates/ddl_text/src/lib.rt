@@ -19,6 +19,7 @@ mod fault;
 mod file;
 mod items;
 mod judging;
+mod laws;
 mod names;
 mod statement;
 mod statements;
@@ -29,6 +30,7 @@ use dict_schema::Item;
 use dict_value::ListOf;
 use fault::FileFault;
 pub use fault::{DdlFault, DdlRefusal, fault_words};
+pub use laws::{canonical_text_is_read, numbers_fit};
 use std::alloc::Global;
 
 /// The items that a definitions file defines, in its order.

@@ -10,16 +10,16 @@ use Rattle.dict_schema.specs.Parts.{column_names}
 use Rattle.dict_schema.specs.Table.{IsBadDefault, IsBadParent, NamesWithin, attributes, counts, keys, ranges, settings, sources, table}
 use Rattle.ddl_writing.specs.Canonical.{DefaultsFit}
 
-clear_behind : (xs ys : List Rule) → AreClear (xs ++ ys) → AreClear ys
+pub clear_behind : (xs ys : List Rule) → AreClear (xs ++ ys) → AreClear ys
 clear_behind [] ys clear = clear
 clear_behind (x ∷ xs) ys clear = clear_behind xs ys clear.1
 
-clear_front : (xs ys : List Rule) → AreClear (xs ++ ys) → AreClear xs
+pub clear_front : (xs ys : List Rule) → AreClear (xs ++ ys) → AreClear xs
 clear_front [] ys clear = tt
 clear_front (x ∷ xs) ys clear = (clear.0, clear_front xs ys clear.1)
 
 -- each rule of a list of places is clear
-clear_at : (rule : ℕ → Rule) (start count place : ℕ) → start ≤ place → place < start + count
+pub clear_at : (rule : ℕ → Rule) (start count place : ℕ) → start ≤ place → place < start + count
     → AreClear (map rule (range_with_len start count)) → IsClear (rule place)
 clear_at rule start zero place low high clear = absurd (omega (arith, low, high))
 clear_at rule start (suc count) place low high clear = elim (cases_lt start place) [
@@ -40,7 +40,7 @@ clear_defaults d clear =
     (clear_behind (NamesWithin (column_names d)) (settings d ++ (keys d ++ (ranges d ++ (attributes d ++ sources d))))
     (clear_behind (counts d) (NamesWithin (column_names d) ++ (settings d ++ (keys d ++ (ranges d ++ (attributes d ++ sources d))))) clear))))))
 
-within : (n place : ℕ) → place < n → place < 0 + n
+pub within : (n place : ℕ) → place < n → place < 0 + n
 within n place low = omega (arith, low)
 
 pub defaults_fit : (d : Definition) → AreClear (table d) → DefaultsFit d

@@ -1,2 +1,2 @@
-mod Defaults
+pub mod Defaults
 mod Listed

@@ -38,8 +38,11 @@ fn written(alloc: Global, text: &[u8]) -> Result<Bytes, NoMemory> {
     Ok(out)
 }
 
-const PLAIN: &[u8] =
-    b"CREATE DICTIONARY `d` (`id` UInt64, `x` String DEFAULT '') PRIMARY KEY `id` SOURCE(EXECUTABLE(command 'c' format 'TabSeparated' execute_direct 0 implicit_key 0 send_chunk_header 0 command_read_timeout 10000 command_write_timeout 10000 command_termination_timeout 10)) LAYOUT(FLAT(INITIAL_ARRAY_SIZE 1024 MAX_ARRAY_SIZE 500000)) LIFETIME(MIN 0 MAX 0) SETTINGS(max_output_bytes = 67108864);";
+const PLAIN: &[u8] = b"CREATE DICTIONARY `d` (`id` UInt64, `x` String DEFAULT '') PRIMARY KEY `id` \
+    SOURCE(EXECUTABLE(command 'c' format 'TabSeparated' execute_direct 0 implicit_key 0 send_chunk_header 0 \
+    command_read_timeout 10000 command_write_timeout 10000 command_termination_timeout 10)) \
+    LAYOUT(FLAT(INITIAL_ARRAY_SIZE 1024 MAX_ARRAY_SIZE 500000)) LIFETIME(MIN 0 MAX 0) \
+    SETTINGS(max_output_bytes = 67108864);";
 
 /// What is shown of a text, and of what is written of its items.
 fn looks_same(alloc: Global, look: Look, text: &[u8]) -> Result<bool, NoMemory> {

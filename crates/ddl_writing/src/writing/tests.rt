@@ -122,7 +122,11 @@ fn a_dictionary(rt: HostRuntime) -> Result<(), Fail> {
     let other = column(alloc, b"x", ColType::Str, false, Default::Text(b""))?;
     let written = text_of(alloc, dictionary(alloc, FLAT, other)?)?;
     let wanted: &[u8] =
-        b"CREATE DICTIONARY `d` (`id` UInt64, `x` String DEFAULT '') PRIMARY KEY `id` SOURCE(EXECUTABLE(command 'c' format 'TabSeparated' execute_direct 0 implicit_key 0 send_chunk_header 0 command_read_timeout 10000 command_write_timeout 10000 command_termination_timeout 10)) LAYOUT(FLAT(INITIAL_ARRAY_SIZE 1024 MAX_ARRAY_SIZE 500000)) LIFETIME(MIN 0 MAX 0) SETTINGS(max_output_bytes = 67108864)";
+        b"CREATE DICTIONARY `d` (`id` UInt64, `x` String DEFAULT '') PRIMARY KEY `id` \
+        SOURCE(EXECUTABLE(command 'c' format 'TabSeparated' execute_direct 0 implicit_key 0 send_chunk_header 0 \
+        command_read_timeout 10000 command_write_timeout 10000 command_termination_timeout 10)) \
+        LAYOUT(FLAT(INITIAL_ARRAY_SIZE 1024 MAX_ARRAY_SIZE 500000)) LIFETIME(MIN 0 MAX 0) \
+        SETTINGS(max_output_bytes = 67108864)";
     assert_eq!(rt; written.as_slice(), wanted);
     Ok(())
 }
