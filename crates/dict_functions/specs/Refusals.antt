@@ -1,5 +1,5 @@
 -- Why a lookup or a call is refused: the first reason in this order.
-use Rattle.std.specs.Prelude.{◌≡◌, ◌≢◌, ◌<◌, ◌∷◌, ◌++◌, ℕ, List, All, Bool, true, false, None, Ok, IsTrue, length, map}
+use Rattle.std.specs.Prelude.{◌≡◌, ◌≢◌, ◌<◌, ◌∷◌, ◌++◌, ℕ, List, All, Bool, true, false, Ok, IsTrue, length, map}
 use Rattle.cache_layout.specs.Fetching.{key_types}
 use Rattle.row_text.specs.Written.{written_row}
 use Rattle.cache_layout.specs.declared.fetch.TheConstants.{MOST_KEY_BYTES}
@@ -11,7 +11,7 @@ use Rattle.dict_value.specs.declared.value.AttrType.{AttrType}
 use Rattle.dict_value.specs.declared.value.Field.{Field}
 use Rattle.dict_value.specs.declared.value.Format.{Format}
 use Rattle.dict_value.specs.declared.value.Value.{Value}
-use Rattle.dict_version.specs.Keys.{parent_column}
+use Rattle.dict_version.specs.Keys.{NamesParent}
 use Rattle.dict_version.specs.declared.key.Key.{Key}
 use Rattle.wire_text.specs.declared.reply.ReplyFault.{ReplyFault}
 use Rattle.wire_text.specs.declared.reply.ReplyFault.TheVariants as fault
@@ -22,7 +22,7 @@ use Rattle.dict_functions.specs.Keys.{IsFirstWithout, ReadsAs, ReadsKey, ReadsNu
 
 -- a hierarchy is asked for, and there is none
 abbrev pub LacksHierarchy : Definition → Asked → Type 0
-LacksHierarchy d q = IsTrue (asks_hierarchy q.verb) × (parent_column d ≡ None)
+LacksHierarchy d q = IsTrue (asks_hierarchy q.verb) × ((place : ℕ) → ¬ (NamesParent d place))
 
 -- an attribute is asked for, and the name is none's
 abbrev pub LacksAttribute : Definition → Asked → Type 0

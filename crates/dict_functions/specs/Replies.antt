@@ -7,6 +7,6 @@ use Rattle.wire_text.specs.declared.reply.Reply.TheVariants.{One, Many}
 
 -- a block has its lines under one mark, and a single lookup the text of its one line
 abbrev pub IsReplyOf : Bool → Mark → List Line → Reply → Type 0
-IsReplyOf true mark lines reply = reply ≡ Many record { mark = mark; lines = lines }
-IsReplyOf false mark (line ∷ []) reply = reply ≡ One record { mark = mark; text = line.text }
+IsReplyOf true mark lines reply = reply ≡ Many mark lines
+IsReplyOf false mark (line ∷ []) reply = reply ≡ One mark line.text
 IsReplyOf false mark _ reply = ⊥

@@ -9,7 +9,7 @@ use Rattle.dict_value.specs.declared.value.Field.{Field}
 use Rattle.dict_value.specs.declared.value.Value.{Value}
 use Rattle.dict_value.specs.declared.value.Value.TheVariants.{Null}
 use Rattle.dict_version.specs.Contents.{Contents}
-use Rattle.dict_version.specs.Keys.{attribute_place, numbers_of, parent_column, parents_of}
+use Rattle.dict_version.specs.Keys.{attribute_place, NamesParent, numbers_of, parents_of}
 use Rattle.dict_version.specs.Lookups.{Finds}
 use Rattle.dict_version.specs.Printed.{IsPrintedAt}
 use Rattle.row_text.specs.Written.{printed}
@@ -84,13 +84,21 @@ IsBelowText level keys parents (key ∷ []) text =
     (below : List ℕ) × IsRisingListOf (IsDescendant keys parents key level) below × (text ≡ listed below)
 IsBelowText level keys parents _ text = ⊥
 
+-- what a verb asks a hierarchy
+abbrev pub AnswersVerb : Verb → ℕ → OfHierarchy
+AnswersVerb verb.Hierarchy level = IsChainText
+AnswersVerb verb.IsIn level = IsInText
+AnswersVerb verb.Children level = IsBelowText 1
+AnswersVerb verb.Descendants level = IsBelowText level
+AnswersVerb _ level = λ keys parents numbers text. ⊥
+
 -- the hierarchy of the rows answers so
-pub record IsHierarchyText (c : Contents) (answers : OfHierarchy) (fields : List Field) (text : List ℕ) : Type 0 where
+pub record IsHierarchyText (c : Contents) (q : Asked) (fields : List Field) (text : List ℕ) : Type 0 where
   pub column : ℕ
   pub numbers : List ℕ
-  pub parent : parent_column c.definition ≡ Some column
+  pub parent : NamesParent c.definition column
   pub reads : ReadsNumbers fields numbers
-  pub is : answers (numbers_of c.rows) (parents_of c.definition column c.rows) numbers text
+  pub is : AnswersVerb q.verb q.level (numbers_of c.rows) (parents_of c.definition column c.rows) numbers text
 
 -- what a lookup gives for the fields of a line
 abbrev pub IsTextBy : Verb → Contents → Asked → List Field → List ℕ → Type 0
@@ -98,10 +106,10 @@ IsTextBy verb.Get c q fields text = IsAttributeText c q fields text
 IsTextBy verb.GetOrDefault c q fields text = IsAttributeText c q fields text
 IsTextBy verb.GetOrNull c q fields text = IsAttributeText c q fields text
 IsTextBy verb.Has c q fields text = IsHasText c fields text
-IsTextBy verb.Hierarchy c q fields text = IsHierarchyText c IsChainText fields text
-IsTextBy verb.IsIn c q fields text = IsHierarchyText c IsInText fields text
-IsTextBy verb.Children c q fields text = IsHierarchyText c (IsBelowText 1) fields text
-IsTextBy verb.Descendants c q fields text = IsHierarchyText c (IsBelowText q.level) fields text
+IsTextBy verb.Hierarchy c q fields text = IsHierarchyText c q fields text
+IsTextBy verb.IsIn c q fields text = IsHierarchyText c q fields text
+IsTextBy verb.Children c q fields text = IsHierarchyText c q fields text
+IsTextBy verb.Descendants c q fields text = IsHierarchyText c q fields text
 IsTextBy verb.Call c q fields text = ⊥
 
 abbrev pub IsText : Contents → Asked → List Field → List ℕ → Type 0

@@ -1,10 +1,15 @@
 // Whether what is asked fits a definition.
-ghost use Rattle.std.specs.Prelude.{◌≡◌, ◌≢◌, ◌<◌, ℕ, Err, IfOk, IsTrue, MatchOption, MatchResult, length};
+ghost use Rattle.std.specs.Prelude.{◌≡◌, ◌≢◌, ◌<◌, ◌^◌, ℕ, Err, IfOk, IsTrue, MatchOption, MatchResult, length};
 ghost use Rattle.dict_schema.specs.declared.definition.Column.{Column as ColumnOf};
 ghost use Rattle.dict_value.specs.Values.{reading};
 ghost use Rattle.dict_value.specs.declared.value.Value.{Value as ValueOf};
 ghost use Rattle.dict_functions.specs.Asking.{IsAttributeNamed, asks_attribute, asks_hierarchy};
 ghost use Rattle.dict_functions.specs.Values.{StandsIn};
+ghost use Rattle.dict_schema.specs.Sound.{IsSound};
+ghost use Rattle.dict_value.specs.Memory.{UnlessNoMemory};
+ghost use Rattle.dict_functions.specs.Refusals.{IsUnfitting};
+ghost use Rattle.dict_functions.specs.steps.Lines.{IsAttributeOf, default_fault, key_fault};
+ghost use Rattle.wire_text.specs.declared.reply.ReplyFault.TheVariants as fault;
 
 use crate::lines::{LineFault, LinesFault};
 use crate::replies::print_value;

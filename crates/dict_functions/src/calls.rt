@@ -9,6 +9,7 @@ ghost use Rattle.dict_functions.specs.Asking.{IsCall};
 ghost use Rattle.dict_functions.specs.Refusals.{IsCallRefusal, argument_types};
 ghost use Rattle.wire_text.specs.declared.reply.Reply.TheVariants.{Refused};
 ghost use Rattle.wire_text.specs.declared.reply.ReplyFault.TheVariants as fault;
+ghost use Rattle.dict_functions.specs.steps.Lines.{argument_fault};
 
 use crate::keys::ValuesOf;
 use crate::lines::{LinesFault, each_line};

@@ -1,5 +1,14 @@
 // Answers from the hierarchy of a version.
-ghost use Rattle.std.specs.Prelude.{◌≡◌, ◌++◌, ◌⊎◌, ◌<◌, ◌^◌, ℕ, List, All, Err, IsTrue, true, length, OnErr, OnOk};
+ghost use Rattle.std.specs.Prelude.{◌≡◌, ◌++◌, ◌≢◌, ◌<◌, ◌^◌, ℕ, List, All, Err, IsTrue, true, length, take, OnErr, OnOk};
+ghost use Rattle.dict_value.specs.Memory.{UnlessNoMemory};
+ghost use Rattle.dict_version.specs.Kept.{IsHierarchyOf};
+ghost use Rattle.dict_functions.specs.Answers.{IsLoadedLine};
+ghost use Rattle.dict_functions.specs.Asking.{asks_hierarchy};
+ghost use Rattle.dict_functions.specs.Refusals.{HasKey};
+ghost use Rattle.dict_functions.specs.Values.{listed};
+ghost use Rattle.dict_functions.specs.steps.Lines.{Answered, IsFromText, key_count};
+ghost use Rattle.wire_text.specs.declared.request.Verb.TheVariants as verb;
+ghost use Rattle.wire_text.specs.declared.reply.ReplyFault.TheVariants as fault;
 
 use crate::asking::key_fault;
 use crate::keys::read_number;
@@ -32,13 +41,16 @@ struct HierarchyOf<'a> {
     version: &'a Version<Uncounted>,
     hier: &'a Hier,
     q: &'a Asked,
-    ghost hier_is: { IsHierarchyOf version.now.definition version.now.rows hier.now },
-    ghost asks: { IsTrue (asks_hierarchy q.now.verb) },
 }
 
 impl HierarchyOf<'_> {
     /// The text for a key alone.
     fn push_from(&self, alloc: Global, key: u64, out: &mut Bytes) -> Result<(), NoMemory>
+        requires verb { IsTrue (asks_hierarchy self.now.q.now.verb) }
+        requires apart { self.now.q.now.verb ≢ verb.IsIn }
+        requires hier { IsHierarchyOf self.now.version.now.definition self.now.version.now.rows self.now.hier.now }
+        ensures { OnOk result ((text : List ℕ) × (out.new ≡ out.old ++ text)
+            × IsFromText self.now.q.now self.now.version.now key text) }
     {
         let numbers = match self.q.verb {
             Verb::Hierarchy => self.hier.chain(alloc, key)?,
@@ -52,7 +64,8 @@ impl HierarchyOf<'_> {
 impl OfLine for HierarchyOf<'_> {
     type Made = Line;
 
-    ghost takes = { λ of fields. length fields ≡ key_count of.q.now.verb };
+    ghost takes = { λ of fields. (length fields ≡ key_count of.q.now.verb) × IsTrue (asks_hierarchy of.q.now.verb)
+        × IsHierarchyOf of.version.now.definition of.version.now.rows of.hier.now };
 
     ghost reads = { λ of fields. HasKey of.version.now.definition true fields };
 

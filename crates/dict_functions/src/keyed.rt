@@ -1,16 +1,20 @@
 // Lookups in a keyed dictionary: the keys that are to be fetched, and the answer from the rows that came.
-ghost use Rattle.std.specs.Prelude.{◌≡◌, ◌<◌, ◌^◌, List, Err, IfOk, MatchResult, length, true, ⊤};
+ghost use Rattle.std.specs.Prelude.{◌≡◌, ◌<◌, ◌^◌, List, All, Err, IfOk, MatchResult, length, true, ⊤};
 ghost use Rattle.std.specs.List.{AllZip};
-ghost use Rattle.cache_layout.specs.Fetching.{key_types};
+ghost use Rattle.cache_layout.specs.Fetching.{FitsReply};
 ghost use Rattle.dict_schema.specs.Parts.{is_keyed_layout};
 ghost use Rattle.dict_schema.specs.Sound.{IsSound};
 ghost use Rattle.dict_value.specs.Memory.{UnlessNoMemory};
 ghost use Rattle.dict_value.specs.declared.value.Field.{Field as FieldOf};
-ghost use Rattle.dict_functions.specs.Answers.{AnswersKeyed, AreFetched, AreKeys, IsKeyedLine, fetched_place, is_present};
+ghost use Rattle.dict_functions.specs.Answers.{AnswersKeyed, AreFetched, AreKeys, IsKeyedLine, fetched_place};
+ghost use Rattle.dict_functions.specs.Answers.{keyed_mark};
 ghost use Rattle.dict_functions.specs.Asking.{IsLookup};
 ghost use Rattle.dict_functions.specs.Refusals.{IsFitting, IsKeyedRefusal, IsUnfitting};
 ghost use Rattle.wire_text.specs.declared.reply.Reply.TheVariants.{Refused};
 ghost use Rattle.wire_text.specs.declared.reply.ReplyFault.TheVariants as fault;
+ghost use Rattle.dict_functions.specs.steps.Lines.{IsAttributeOf, IsHasLine};
+ghost use Rattle.dict_value.specs.declared.value.FetchedRow.{FetchedRow as FetchedOf};
+ghost use Rattle.dict_functions.specs.steps.Lines.{HasFetchedText, IsAttributeLine};
 
 use crate::asking::{Attribute, asks_attribute, asks_hierarchy, attribute_of, key_fault};
 use crate::keys::{ValuesOf, key_types};
@@ -97,13 +101,14 @@ fn has_lines(alloc: Global, rows: &Fetched) -> Result<ListOf<Line>, NoMemory>
 fn attribute_text(
     alloc: Global,
     d: &Definition,
+    q: &Asked,
     attribute: &Attribute,
     row: &MaybeRow,
 ) -> Result<Bytes, NoMemory>
     requires sound { IsSound d.now }
     requires fits { FitsReply d.now row.now }
-    requires of { IsAttributeOf d.now q attribute.now }
-    ensures { IfOk result (λ text. (column : ColumnOf) × IsFetchedText d.now q attribute.now.place column row.now text) }
+    requires of { IsAttributeOf d.now q.now attribute.now }
+    ensures { IfOk result (λ text. HasFetchedText d.now q.now row.now text) }
 {
     let mut text = Bytes::new(alloc);
     match row {
@@ -121,12 +126,18 @@ fn attribute_text(
 fn attribute_lines(
     alloc: Global,
     d: &Definition,
+    q: &Asked,
     attribute: &Attribute,
     rows: &Fetched,
-) -> Result<ListOf<Line>, NoMemory> {
+) -> Result<ListOf<Line>, NoMemory>
+    requires sound { IsSound d.now }
+    requires fit { All (λ (fetched : FetchedOf). FitsReply d.now fetched.row) rows.now }
+    requires of { IsAttributeOf d.now q.now attribute.now }
+    ensures { IfOk result (AllZip (IsAttributeLine d.now q.now) rows.now) }
+{
     let mut lines = ListOf::with_room(alloc, rows.len())?;
     for fetched in rows.as_slice() {
-        let text = attribute_text(alloc, d, attribute, &fetched.row)?;
+        let text = attribute_text(alloc, d, q, attribute, &fetched.row)?;
         lines.push(Line {
             moment: fetched.moment,
             text,
@@ -141,12 +152,19 @@ fn keyed_lines(
     d: &Definition,
     q: &Asked,
     rows: &Fetched,
-) -> Result<ListOf<Line>, NoMemory> {
+) -> Result<ListOf<Line>, NoMemory>
+    requires sound { IsSound d.now }
+    requires lookup { IsLookup q.now }
+    requires fitting { IsFitting d.now q.now }
+    requires keyed { is_keyed_layout d.now.layout ≡ true }
+    requires fit { All (λ (fetched : FetchedOf). FitsReply d.now fetched.row) rows.now }
+    ensures { IfOk result (AllZip (IsKeyedLine d.now q.now) rows.now) }
+{
     if !asks_attribute(q.verb) {
         return has_lines(alloc, rows);
     }
     match attribute_of(alloc, d, q) {
-        Ok(attribute) => attribute_lines(alloc, d, &attribute, rows),
+        Ok(attribute) => attribute_lines(alloc, d, q, &attribute, rows),
         Err(_) => Err(NoMemory),
     }
 }

@@ -1,5 +1,5 @@
 // Keys and values, read from the fields of a line.
-ghost use Rattle.std.specs.Prelude.{◌≡◌, ◌∷◌, ◌++◌, [], ℕ, ℤ, List, Err, IfOk, MatchOption, Some, None};
+ghost use Rattle.std.specs.Prelude.{◌≡◌, ◌∷◌, ◌++◌, [], ℕ, ℤ, List, Err, IfOk, MatchOption, Some, None, ⊤};
 ghost use Rattle.cache_layout.specs.Fetching.{key_types};
 ghost use Rattle.dict_value.specs.declared.value.Field.TheVariants.{Text};
 ghost use Rattle.dict_value.specs.declared.value.Value.{Value as ValueOf};
@@ -7,6 +7,9 @@ ghost use Rattle.dict_version.specs.Keys.{end_in};
 ghost use Rattle.dict_version.specs.declared.key.Key.{Key as KeyOf};
 ghost use Rattle.dict_functions.specs.Keys.{ReadsAddress, ReadsAs, ReadsKey, ReadsNumber, ReadsNumbers, ReadsPoint, ReadsRanged, point_type};
 ghost use Rattle.range_layout.specs.declared.ends.End.TheVariants.{At};
+ghost use Rattle.dict_value.specs.Values.{FitsColumn};
+ghost use Rattle.dict_functions.specs.Refusals.{HasValues};
+ghost use Rattle.std.specs.List.{AllZip};
 
 use crate::lines::{LineFault, OfLine};
 use dict_schema::{Definition, RangeOf, column_at};

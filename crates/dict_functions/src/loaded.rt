@@ -13,6 +13,7 @@ ghost use Rattle.dict_functions.specs.Values.{IsAttributeText, IsCellText, IsHas
 ghost use Rattle.wire_text.specs.declared.reply.Reply.TheVariants.{Refused};
 ghost use Rattle.wire_text.specs.declared.reply.ReplyFault.TheVariants as fault;
 ghost use Rattle.wire_text.specs.declared.request.Verb.TheVariants as verb;
+ghost use Rattle.dict_functions.specs.steps.Lines.{Answered, IsAttributeOf};
 
 use crate::asking::{Attribute, asks_hierarchy, attribute_of, key_fault};
 use crate::hierarchies::hierarchy_lines;
@@ -34,15 +35,14 @@ struct AttributeOf<'a> {
     /// The attribute's place in a row.
     cell: u32,
     types: &'a [AttrType],
-    ghost attribute_is: { IsAttributeOf version.now.definition q.now attribute.now },
-    ghost cell_is: { cell ≡ attribute_place version.now.definition attribute.now.place },
-    ghost types_are: { types.now ≡ key_types version.now.definition },
 }
 
 impl OfLine for AttributeOf<'_> {
     type Made = Line;
 
-    ghost takes = { λ of fields. ⊤ };
+    ghost takes = { λ of fields. IsAttributeOf of.version.now.definition of.q.now of.attribute.now
+        × (of.cell ≡ attribute_place of.version.now.definition of.attribute.now.place)
+        × (of.types.now ≡ key_types of.version.now.definition) };
 
     ghost reads = { λ of fields. HasKey of.version.now.definition false fields };
 
@@ -64,13 +64,12 @@ impl OfLine for AttributeOf<'_> {
 struct HasOf<'a> {
     version: &'a Version<Uncounted>,
     types: &'a [AttrType],
-    ghost types_are: { types.now ≡ key_types version.now.definition },
 }
 
 impl OfLine for HasOf<'_> {
     type Made = Line;
 
-    ghost takes = { λ of fields. ⊤ };
+    ghost takes = { λ of fields. of.types.now ≡ key_types of.version.now.definition };
 
     ghost reads = { λ of fields. HasKey of.version.now.definition false fields };
 

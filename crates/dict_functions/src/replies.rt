@@ -4,6 +4,7 @@ ghost use Rattle.dict_value.specs.Values.{FitsColumn};
 ghost use Rattle.dict_value.specs.declared.value.Value.TheVariants.{Null};
 ghost use Rattle.row_text.specs.Written.{printed};
 ghost use Rattle.dict_functions.specs.Replies.{IsReplyOf};
+ghost use Rattle.dict_functions.specs.Values.{flag};
 
 use dict_value::{AttrType, Bytes, ListOf, NoMemory, Value};
 use dict_version::print_cell;

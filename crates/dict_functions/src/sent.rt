@@ -1,5 +1,5 @@
 // Rows of values as a child is sent them.
-ghost use Rattle.std.specs.Prelude.{◌≡◌, ◌≢◌, ◌++◌, ◌<◌, ◌≤◌, [], List, All, IfOk, IsOk, IsOkOf, OnOk, length, true, false};
+ghost use Rattle.std.specs.Prelude.{◌≡◌, ◌≢◌, ◌∷◌, ◌++◌, ◌<◌, ◌≤◌, [], List, All, IfOk, Ok, OnOk, length, true, false};
 ghost use Rattle.std.specs.List.{AllZip};
 ghost use Rattle.row_text.specs.Written.{written_field, written_fields, written_row};
 ghost use Rattle.cache_layout.specs.declared.fetch.TheConstants.{MOST_KEY_BYTES};
@@ -66,8 +66,8 @@ pub(crate) fn has_too_large(
 ) -> Result<bool, NoMemory>
     requires fit { All (AllZip FitsColumn types.now) rows.now }
     requires some { types.now ≢ [] }
-    ensures small { IsOkOf result false → All (λ row. length (written_row format types.now row) ≤ MOST_KEY_BYTES) rows.now }
-    ensures large { IsOkOf result true → (before after : List (List ValueOf)) × (row : List ValueOf)
+    ensures small { result ≡ Ok false → All (λ row. length (written_row format types.now row) ≤ MOST_KEY_BYTES) rows.now }
+    ensures large { result ≡ Ok true → (before after : List (List ValueOf)) × (row : List ValueOf)
         × (rows.now ≡ before ++ row ∷ after) × (MOST_KEY_BYTES < length (written_row format types.now row)) }
 {
     let mut scratch = Bytes::new(alloc);

@@ -1,11 +1,13 @@
 -- What is made of the lines of a lookup, and what their faults mean.
-use Rattle.std.specs.Prelude.{◌≡◌, ℕ, List, Result, MatchResult}
+use Rattle.std.specs.Prelude.{◌≡◌, ◌∷◌, [], ℕ, List, Result, MatchResult}
 use Rattle.std.specs.List.{AllZip}
 use Rattle.dict_schema.specs.declared.definition.Column.{Column}
 use Rattle.dict_schema.specs.declared.definition.Definition.{Definition}
 use Rattle.dict_value.specs.declared.value.FetchedRow.{FetchedRow}
+use Rattle.dict_value.specs.declared.value.MaybeRow.{MaybeRow}
 use Rattle.dict_value.specs.declared.value.Value.{Value}
 use Rattle.dict_version.specs.Contents.{Contents}
+use Rattle.dict_version.specs.Keys.{NamesParent, numbers_of, parents_of}
 use Rattle.row_text.specs.Written.{printed}
 use Rattle.wire_text.specs.declared.reply.Line.{Line}
 use Rattle.wire_text.specs.declared.reply.ReplyFault.{ReplyFault}
@@ -13,10 +15,10 @@ use Rattle.wire_text.specs.declared.reply.ReplyFault.TheVariants as fault
 use Rattle.wire_text.specs.declared.request.Asked.{Asked}
 use Rattle.wire_text.specs.declared.request.Verb.{Verb}
 use Rattle.wire_text.specs.declared.request.Verb.TheVariants as verb
-use Rattle.dict_functions.specs.Answers.{IsLoadedLine, is_present}
+use Rattle.dict_functions.specs.Answers.{IsFetchedText, IsLoadedLine, is_present}
 use Rattle.dict_functions.specs.Asking.{IsAttributeNamed}
 use Rattle.dict_functions.specs.Refusals.{IsFitting, IsRefusal}
-use Rattle.dict_functions.specs.Values.{StandsIn, flag}
+use Rattle.dict_functions.specs.Values.{AnswersVerb, StandsIn, flag}
 use Rattle.dict_functions.specs.declared.asking.Attribute.{Attribute}
 use Rattle.dict_functions.specs.declared.lines.LineFault.{LineFault}
 use Rattle.dict_functions.specs.declared.lines.LineFault.TheVariants as one
@@ -42,9 +44,24 @@ abbrev pub key_count : Verb → ℕ
 key_count verb.IsIn = 2
 key_count _ = 1
 
+-- the text that the hierarchy of a version gives for one key alone
+abbrev pub IsFromText : Asked → Contents → ℕ → List ℕ → Type 0
+IsFromText q c key text =
+    (column : ℕ) × NamesParent c.definition column
+    × AnswersVerb q.verb q.level (numbers_of c.rows) (parents_of c.definition column c.rows) (key ∷ []) text
+
 -- the line of the question whether a row came
 abbrev pub IsHasLine : FetchedRow → Line → Type 0
 IsHasLine fetched line = (line.moment ≡ fetched.moment) × (line.text ≡ flag (is_present fetched.row))
+
+-- the text of the attribute that is asked for in a fetched row, or of what stands in for it
+abbrev pub HasFetchedText : Definition → Asked → MaybeRow → List ℕ → Type 0
+HasFetchedText d q row text =
+    (place : ℕ) × (column : Column) × IsAttributeNamed d q.attribute place column
+    × IsFetchedText d q place column row text
+
+abbrev pub IsAttributeLine : Definition → Asked → FetchedRow → Line → Type 0
+IsAttributeLine d q fetched line = (line.moment ≡ fetched.moment) × HasFetchedText d q fetched.row line.text
 
 -- what the first unread line means for keys, and for arguments
 abbrev pub key_fault : LinesFault → ReplyFault
