@@ -1,12 +1,12 @@
 // Answers from the hierarchy of a version.
-ghost use Rattle.std.specs.Prelude.{◌≡◌, ◌++◌, ◌≢◌, ◌<◌, ◌^◌, ℕ, List, All, Err, IsTrue, true, length, take, OnErr, OnOk};
+ghost use Rattle.std.specs.Prelude.{◌≡◌, ◌++◌, ◌≢◌, ◌<◌, ◌^◌, ℕ, List, All, Err, IsTrue, true, length, OnOk};
 ghost use Rattle.dict_value.specs.Memory.{UnlessNoMemory};
 ghost use Rattle.dict_version.specs.Kept.{IsHierarchyOf};
 ghost use Rattle.dict_functions.specs.Answers.{IsLoadedLine};
 ghost use Rattle.dict_functions.specs.Asking.{asks_hierarchy};
 ghost use Rattle.dict_functions.specs.Refusals.{HasKey};
 ghost use Rattle.dict_functions.specs.Values.{listed};
-ghost use Rattle.dict_functions.specs.steps.Lines.{Answered, IsFromText, key_count};
+ghost use Rattle.dict_functions.specs.steps.Lines.{Answered, IsFromText, key_count, listed_at};
 ghost use Rattle.wire_text.specs.declared.request.Verb.TheVariants as verb;
 ghost use Rattle.wire_text.specs.declared.reply.ReplyFault.TheVariants as fault;
 
@@ -20,17 +20,23 @@ use hier::Hier;
 use std::alloc::Global;
 use wire_text::{Asked, Line, ReplyFault, Verb};
 
-/// Appends a list of numbers; after `NoMemory` the front is as it was.
+/// Appends the number at a place of a list, behind a comma where others stand before it.
+fn push_at(out: &mut Bytes, place: usize, number: u64) -> Result<(), NoMemory>
+    ensures { OnOk result (out.new ≡ out.old ++ listed_at place number) }
+{
+    if place > 0 {
+        out.push(b',')?;
+    }
+    push_number(out, number)
+}
+
+/// Appends a list of numbers.
 fn push_listed(out: &mut Bytes, numbers: &[u64]) -> Result<(), NoMemory>
-    ensures ok { OnOk result (out.new ≡ out.old ++ listed numbers.now) }
-    ensures err { OnErr result (take (length out.old) out.new ≡ out.old) }
+    ensures { OnOk result (out.new ≡ out.old ++ listed numbers.now) }
 {
     out.push(b'[')?;
     for place in 0..numbers.len() {
-        if place > 0 {
-            out.push(b',')?;
-        }
-        push_number(out, numbers[place])?;
+        push_at(out, place, numbers[place])?;
     }
     out.push(b']')
 }

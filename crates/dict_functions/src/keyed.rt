@@ -173,7 +173,7 @@ fn keyed_lines(
 fn keyed_mark(block: bool, now: u64, lines: &ListOf<Line>) -> Mark
     ensures { result ≡ keyed_mark block now lines.now }
 {
-    if block || lines.is_empty() {
+    if block || lines.len() != 1 {
         return Mark::Moment(now);
     }
     Mark::Moment(lines.as_slice()[0].moment)

@@ -46,12 +46,17 @@ pub(crate) fn read_values(
     if types.len() != fields.len() {
         return Err(LineFault::Unread);
     }
-    let mut values = ListOf::with_room(alloc, types.len())?;
+    let Ok(mut values) = ListOf::with_room(alloc, types.len()) else {
+        return Err(LineFault::NoMemory);
+    };
     for place in 0..types.len() {
-        match read_value(alloc, &types[place], &fields[place]) {
-            Ok(value) => values.push(value)?,
+        let value = match read_value(alloc, &types[place], &fields[place]) {
+            Ok(value) => value,
             Err(BadValue::NoMemory) => return Err(LineFault::NoMemory),
             Err(_) => return Err(LineFault::Unread),
+        };
+        if values.push(value).is_err() {
+            return Err(LineFault::NoMemory);
         }
     }
     Ok(values)

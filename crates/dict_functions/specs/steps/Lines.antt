@@ -1,8 +1,9 @@
 -- What is made of the lines of a lookup, and what their faults mean.
-use Rattle.std.specs.Prelude.{◌≡◌, ◌∷◌, [], ℕ, List, Result, MatchResult}
+use Rattle.std.specs.Prelude.{◌≡◌, ◌∷◌, [], ℕ, zero, suc, List, Result, MatchResult, decimal}
 use Rattle.std.specs.List.{AllZip}
 use Rattle.dict_schema.specs.declared.definition.Column.{Column}
 use Rattle.dict_schema.specs.declared.definition.Definition.{Definition}
+use Rattle.dict_value.specs.declared.letters.TheConstants.{COMMA}
 use Rattle.dict_value.specs.declared.value.FetchedRow.{FetchedRow}
 use Rattle.dict_value.specs.declared.value.MaybeRow.{MaybeRow}
 use Rattle.dict_value.specs.declared.value.Value.{Value}
@@ -43,6 +44,11 @@ pub record IsAttributeOf (d : Definition) (q : Asked) (attribute : Attribute) : 
 abbrev pub key_count : Verb → ℕ
 key_count verb.IsIn = 2
 key_count _ = 1
+
+-- a number at a place of a list, behind a comma where others stand before it
+abbrev pub listed_at : ℕ → ℕ → List ℕ
+listed_at zero number = decimal number
+listed_at (suc before) number = COMMA ∷ decimal number
 
 -- the text that the hierarchy of a version gives for one key alone
 abbrev pub IsFromText : Asked → Contents → ℕ → List ℕ → Type 0

@@ -1,0 +1,3 @@
+mod AskedLines
+mod Listed
+mod SideBySide

@@ -1,0 +1,86 @@
+-- Lists that go side by side, so far and one item more.
+use Rattle.std.proofs.Common.{◌≡◌, ◌<◌, ◌+◌, ◌++◌, ◌∷◌, ◌∙◌, [], ℕ, zero, suc, List, Ok, Err, get_or, length, take, drop, refl, sym, ap, subst, arith}
+use Rattle.std.specs.Prelude.{All}
+use Rattle.std.specs.List.{AllZip}
+use Rattle.dict_value.specs.Values.{reading}
+use Rattle.dict_value.specs.declared.value.AttrType.{AttrType}
+use Rattle.dict_value.specs.declared.value.BadValue.{BadValue}
+use Rattle.dict_value.specs.declared.value.Field.{Field}
+use Rattle.dict_value.specs.declared.value.Value.{Value}
+use Rattle.dict_functions.specs.Keys.{IsFirstWithout, ReadsAs}
+
+pub zip-more : {A B : Type 0} (R : A → B → Type 0) (xs : List A) (ys : List B) (i : ℕ) (x : A) (y : B)
+    → i < length xs → x ≡ get_or xs i x → AllZip R (take i xs) ys → R x y → AllZip R (take (i + 1) xs) (ys ++ y ∷ [])
+zip-more R [] ys i x y low at zip here = absurd (omega (arith, low))
+zip-more R (a ∷ xs) [] zero x y low at zip here = (subst (λ z. R z y) at here, tt)
+zip-more R (a ∷ xs) (b ∷ ys) zero x y low at zip here = absurd zip
+zip-more R (a ∷ xs) [] (suc i) x y low at zip here = absurd zip
+zip-more R (a ∷ xs) (b ∷ ys) (suc i) x y low at zip here =
+    let next : suc i + 1 ≡ suc (i + 1) = omega arith in
+    let rest : AllZip R (take (suc (i + 1)) (a ∷ xs)) (b ∷ (ys ++ y ∷ [])) = (zip.0, zip-more R xs ys i x y (omega (arith, low)) at zip.1 here) in
+    subst (λ n. AllZip R (take n (a ∷ xs)) (b ∷ (ys ++ y ∷ []))) (sym next) rest
+
+-- a list, cut around an item
+cut-at : {A : Type 0} (xs : List A) (i : ℕ) (x : A) → i < length xs → x ≡ get_or xs i x → xs ≡ take i xs ++ x ∷ drop (suc i) xs
+cut-at [] i x low at = absurd (omega (arith, low))
+cut-at (a ∷ xs) zero x low at = ap (λ h. h ∷ xs) (sym at)
+cut-at (a ∷ xs) (suc i) x low at = ap (λ l. a ∷ l) (cut-at xs i x (omega (arith, low)) at)
+
+length-front : {A : Type 0} (xs : List A) (i : ℕ) → i < length xs → length (take i xs) ≡ i
+length-front [] i low = absurd (omega (arith, low))
+length-front (a ∷ xs) zero low = refl
+length-front (a ∷ xs) (suc i) low = ap suc (length-front xs i (omega (arith, low)))
+
+-- the first line that can't be read
+pub first-without : (P : List Field → Type 0) (lines : List (List Field)) (i : ℕ) (fields : List Field) → i < length lines
+    → fields ≡ get_or lines i fields → All P (take i lines) → ¬ (P fields) → IsFirstWithout P lines (i + 1)
+first-without P lines i fields low at earlier without = record {
+  before = take i lines;
+  fields = fields;
+  after = drop (suc i) lines;
+  parts = cut-at lines i fields low at;
+  counted = ap (λ n. n + 1) (sym (length-front lines i low));
+  earlier = earlier;
+  without = without;
+}
+
+-- so many fields as types, and as values
+pub reads-long : (types : List AttrType) (fields : List Field) (values : List Value) → ReadsAs types fields values
+    → length types ≡ length fields
+reads-long [] [] [] reads = refl
+reads-long [] [] (v ∷ values) reads = absurd reads
+reads-long [] (f ∷ fields) values reads = absurd reads
+reads-long (t ∷ types) [] values reads = absurd reads
+reads-long (t ∷ types) (f ∷ fields) [] reads = absurd reads
+reads-long (t ∷ types) (f ∷ fields) (v ∷ values) reads = ap suc (reads-long types fields values reads.1)
+
+-- a value more
+pub reads-more : (types : List AttrType) (fields : List Field) (values : List Value) (i : ℕ) (t : AttrType) (f : Field) (v : Value)
+    → i < length types → i < length fields → t ≡ get_or types i t → f ≡ get_or fields i f
+    → ReadsAs (take i types) (take i fields) values → reading t f ≡ Ok v
+    → ReadsAs (take (i + 1) types) (take (i + 1) fields) (values ++ v ∷ [])
+reads-more [] fields values i t f v low also at and reads here = absurd (omega (arith, low))
+reads-more (a ∷ types) [] values i t f v low also at and reads here = absurd (omega (arith, also))
+reads-more (a ∷ types) (b ∷ fields) [] zero t f v low also at and reads here =
+    (subst (λ (x : AttrType). reading x b ≡ Ok v) at (subst (λ (x : Field). reading t x ≡ Ok v) and here), tt)
+reads-more (a ∷ types) (b ∷ fields) (w ∷ values) zero t f v low also at and reads here = absurd reads
+reads-more (a ∷ types) (b ∷ fields) [] (suc i) t f v low also at and reads here = absurd reads
+reads-more (a ∷ types) (b ∷ fields) (w ∷ values) (suc i) t f v low also at and reads here =
+    let next : suc i + 1 ≡ suc (i + 1) = omega arith in
+    let rest : ReadsAs (take (suc (i + 1)) (a ∷ types)) (take (suc (i + 1)) (b ∷ fields)) (w ∷ (values ++ v ∷ [])) =
+    (reads.0, reads-more types fields values i t f v (omega (arith, low)) (omega (arith, also)) at and reads.1 here) in
+    subst (λ n. ReadsAs (take n (a ∷ types)) (take n (b ∷ fields)) (w ∷ (values ++ v ∷ []))) (sym next) rest
+
+-- a field without a reading
+pub reads-not : (types : List AttrType) (fields : List Field) (values : List Value) (i : ℕ) (t : AttrType) (f : Field) (x : BadValue)
+    → i < length types → i < length fields → t ≡ get_or types i t → f ≡ get_or fields i f → reading t f ≡ Err x
+    → ReadsAs types fields values → ⊥
+reads-not [] fields values i t f x low also at and bad reads = absurd (omega (arith, low))
+reads-not (a ∷ types) [] values i t f x low also at and bad reads = absurd (omega (arith, also))
+reads-not (a ∷ types) (b ∷ fields) [] i t f x low also at and bad reads = absurd reads
+reads-not (a ∷ types) (b ∷ fields) (v ∷ values) zero t f x low also at and bad reads =
+    let here : reading a b ≡ Err x = subst (λ (y : AttrType). reading y b ≡ Err x) at (subst (λ (y : Field). reading t y ≡ Err x) and bad) in
+    let both : Ok v ≡ Err x = sym reads.0 ∙ here in
+    cc
+reads-not (a ∷ types) (b ∷ fields) (v ∷ values) (suc i) t f x low also at and bad reads =
+    reads-not types fields values i t f x (omega (arith, low)) (omega (arith, also)) at and bad reads.1
