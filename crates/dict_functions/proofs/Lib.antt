@@ -1,3 +1,6 @@
 mod AskedLines
+mod Defaults
+mod Fitting
+mod KeyTypes
 mod Listed
 mod SideBySide

@@ -1,13 +1,14 @@
 -- Lists that go side by side, so far and one item more.
-use Rattle.std.proofs.Common.{◌≡◌, ◌<◌, ◌+◌, ◌++◌, ◌∷◌, ◌∙◌, [], ℕ, zero, suc, List, Ok, Err, get_or, length, take, drop, refl, sym, ap, subst, arith}
+use Rattle.std.proofs.Common.{◌≡◌, ◌<◌, ◌+◌, ◌++◌, ◌∷◌, ◌∙◌, [], ℕ, zero, suc, List, Some, Ok, Err, get_or, slice_get, length, take, drop, refl, sym, ap, subst, arith}
 use Rattle.std.specs.Prelude.{All}
 use Rattle.std.specs.List.{AllZip}
+use Rattle.std.proofs.lemmas.Option.{slice_get_read}
 use Rattle.dict_value.specs.Values.{reading}
 use Rattle.dict_value.specs.declared.value.AttrType.{AttrType}
 use Rattle.dict_value.specs.declared.value.BadValue.{BadValue}
 use Rattle.dict_value.specs.declared.value.Field.{Field}
 use Rattle.dict_value.specs.declared.value.Value.{Value}
-use Rattle.dict_functions.specs.Keys.{IsFirstWithout, ReadsAs}
+use Rattle.dict_functions.specs.Keys.{IsFirstWithout, ReadsAs, ReadsNumber, ReadsNumbers}
 
 pub zip-more : {A B : Type 0} (R : A → B → Type 0) (xs : List A) (ys : List B) (i : ℕ) (x : A) (y : B)
     → i < length xs → x ≡ get_or xs i x → AllZip R (take i xs) ys → R x y → AllZip R (take (i + 1) xs) (ys ++ y ∷ [])
@@ -84,3 +85,15 @@ reads-not (a ∷ types) (b ∷ fields) (v ∷ values) zero t f x low also at and
     cc
 reads-not (a ∷ types) (b ∷ fields) (v ∷ values) (suc i) t f x low also at and bad reads =
     reads-not types fields values i t f x (omega (arith, low)) (omega (arith, also)) at and bad reads.1
+
+-- what stands at a place
+pub item-here : {A : Type 0} (given xs : List A) (i : ℕ) (x : A) → given ≡ xs → i < length xs → x ≡ get_or given i x
+    → slice_get xs i ≡ Some x
+item-here given xs i x is low at =
+    slice_get_read xs (length xs) i x refl low (subst (λ l. x ≡ get_or l i x) is at)
+
+-- the number that is the whole of a line
+pub first-number : (fields : List Field) (n : ℕ) (field : Field) → field ≡ get_or fields 0 field
+    → ReadsNumbers fields (n ∷ []) → ReadsNumber field n
+first-number [] n field at reads = absurd reads
+first-number (f ∷ fields) n field at reads = subst (λ x. ReadsNumber x n) (sym at) reads.0

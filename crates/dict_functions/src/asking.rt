@@ -1,5 +1,5 @@
 // Whether what is asked fits a definition.
-ghost use Rattle.std.specs.Prelude.{◌≡◌, ◌≢◌, ◌<◌, ◌^◌, ℕ, Err, IfOk, IsTrue, MatchOption, MatchResult, length};
+ghost use Rattle.std.specs.Prelude.{◌≡◌, ◌≢◌, ◌<◌, ◌^◌, ℕ, Err, IfOk, IsTrue, MatchOption, MatchResult, false, length, true};
 ghost use Rattle.dict_schema.specs.declared.definition.Column.{Column as ColumnOf};
 ghost use Rattle.dict_value.specs.Values.{reading};
 ghost use Rattle.dict_value.specs.declared.value.Value.{Value as ValueOf};
@@ -11,10 +11,10 @@ ghost use Rattle.dict_functions.specs.Refusals.{IsUnfitting};
 ghost use Rattle.dict_functions.specs.steps.Lines.{IsAttributeOf, default_fault, key_fault};
 ghost use Rattle.wire_text.specs.declared.reply.ReplyFault.TheVariants as fault;
 
-use crate::lines::{LineFault, LinesFault};
+use crate::lines::{LineFault, LinesFault, value_fault};
 use crate::replies::print_value;
 use dict_schema::{Column, Definition, is_attribute};
-use dict_value::{BadValue, Bytes, Value, copy_value, read_value};
+use dict_value::{Bytes, Value, copy_value, read_value};
 use std::alloc::Global;
 use wire_text::{Asked, ReplyFault, Verb};
 
@@ -37,15 +37,27 @@ pub(crate) fn asks_hierarchy(verb: Verb) -> bool
     )
 }
 
+/// Whether the column at a place is the attribute of a name.
+fn is_attribute_named(d: &Definition, name: &Bytes, place: usize) -> bool
+    requires { place < length d.now.columns }
+    ensures yes { result ≡ true → (column : ColumnOf) × IsAttributeNamed d.now name.now place column }
+    ensures no { result ≡ false → (column : ColumnOf) → ¬ (IsAttributeNamed d.now name.now place column) }
+{
+    if !is_attribute(d, place) {
+        return false;
+    }
+    d.columns.as_slice()[place].name.is_same(name)
+}
+
 /// The place in the definition of the attribute of a name.
-fn attribute_named(d: &Definition, name: &[u8]) -> Option<u32>
+fn attribute_named(d: &Definition, name: &Bytes) -> Option<u32>
     requires { length d.now.columns < 2 ^ 32 }
     ensures { MatchOption result
         ((place : ℕ) (column : ColumnOf) → ¬ (IsAttributeNamed d.now name.now place column))
         (λ place. (column : ColumnOf) × IsAttributeNamed d.now name.now place column) }
 {
     for place in 0..d.columns.len() {
-        if d.columns.as_slice()[place].name.as_slice() == name && is_attribute(d, place) {
+        if is_attribute_named(d, name, place) {
             return Some(place as u32);
         }
     }
@@ -60,11 +72,13 @@ pub(crate) fn stand_in(alloc: Global, q: &Asked, column: &Column) -> Result<Valu
         × ((v : ValueOf) → reading column.now.ty q.now.fallback ≢ Ok v) }
 {
     match q.verb {
-        Verb::Get => Ok(copy_value(alloc, &column.default)?),
+        Verb::Get => match copy_value(alloc, &column.default) {
+            Ok(value) => Ok(value),
+            Err(_) => Err(LineFault::NoMemory),
+        },
         Verb::GetOrDefault => match read_value(alloc, &column.ty, &q.fallback) {
             Ok(value) => Ok(value),
-            Err(BadValue::NoMemory) => Err(LineFault::NoMemory),
-            Err(_) => Err(LineFault::Unread),
+            Err(fault) => Err(value_fault(fault)),
         },
         _ => Ok(Value::Null),
     }
@@ -104,7 +118,7 @@ pub(crate) fn attribute_of(alloc: Global, d: &Definition, q: &Asked) -> Result<A
     ensures { UnlessNoMemory (Err fault.NoMemory) result
         (MatchResult result (IsAttributeOf d.now q.now) (IsUnfitting d.now q.now)) }
 {
-    let Some(place) = attribute_named(d, q.attribute.as_slice()) else {
+    let Some(place) = attribute_named(d, &q.attribute) else {
         return Err(ReplyFault::UnknownAttribute);
     };
     let column = &d.columns.as_slice()[place as usize];

@@ -11,10 +11,10 @@ ghost use Rattle.dict_value.specs.Values.{FitsColumn};
 ghost use Rattle.dict_functions.specs.Refusals.{HasValues};
 ghost use Rattle.std.specs.List.{AllZip};
 
-use crate::lines::{LineFault, OfLine};
+use crate::lines::{LineFault, OfLine, value_fault};
 use dict_schema::{Definition, RangeOf, column_at};
 use dict_value::{
-    Address, AttrType, BadValue, ColType, Field, Fields, ListOf, NoMemory, Value, read_address, read_text,
+    Address, AttrType, ColType, Field, Fields, ListOf, NoMemory, Value, read_address, read_text,
     read_value,
 };
 use dict_version::{Key, LookupBy, lookup_by};
@@ -52,8 +52,7 @@ pub(crate) fn read_values(
     for place in 0..types.len() {
         let value = match read_value(alloc, &types[place], &fields[place]) {
             Ok(value) => value,
-            Err(BadValue::NoMemory) => return Err(LineFault::NoMemory),
-            Err(_) => return Err(LineFault::Unread),
+            Err(fault) => return Err(value_fault(fault)),
         };
         if values.push(value).is_err() {
             return Err(LineFault::NoMemory);
@@ -129,8 +128,7 @@ fn read_point(alloc: Global, d: &Definition, field: &Field) -> Result<i128, Line
     };
     let value = match read_text(alloc, base, text.as_slice()) {
         Ok(value) => value,
-        Err(BadValue::NoMemory) => return Err(LineFault::NoMemory),
-        Err(_) => return Err(LineFault::Unread),
+        Err(fault) => return Err(value_fault(fault)),
     };
     match point_in(&value) {
         Some(point) => Ok(point),

@@ -3,8 +3,9 @@ ghost use Rattle.std.specs.Prelude.{◌≡◌, ◌<◌, ◌∷◌, ◌++◌, ◌
 ghost use Rattle.std.specs.List.{AllZip};
 ghost use Rattle.dict_value.specs.declared.value.Field.{Field as FieldOf};
 ghost use Rattle.dict_functions.specs.Keys.{IsFirstWithout};
+ghost use Rattle.dict_functions.specs.steps.Lines.{value_fault};
 
-use dict_value::{Fields, ListOf, NoMemory};
+use dict_value::{BadValue, Fields, ListOf, NoMemory};
 use std::alloc::Global;
 
 /// Why nothing is made of a line.
@@ -21,6 +22,16 @@ impl From<NoMemory> for LineFault {
         ensures { result ≡ LineFault.NoMemory }
     {
         LineFault::NoMemory
+    }
+}
+
+/// Why nothing is made of a line with a field that has no value.
+pub(crate) fn value_fault(fault: BadValue) -> LineFault
+    ensures { result ≡ value_fault fault }
+{
+    match fault {
+        BadValue::NoMemory => LineFault::NoMemory,
+        _ => LineFault::Unread,
     }
 }
 

@@ -4,6 +4,8 @@ use Rattle.std.specs.List.{AllZip}
 use Rattle.dict_schema.specs.declared.definition.Column.{Column}
 use Rattle.dict_schema.specs.declared.definition.Definition.{Definition}
 use Rattle.dict_value.specs.declared.letters.TheConstants.{COMMA}
+use Rattle.dict_value.specs.declared.value.BadValue.{BadValue}
+use Rattle.dict_value.specs.declared.value.BadValue.TheVariants as bad
 use Rattle.dict_value.specs.declared.value.FetchedRow.{FetchedRow}
 use Rattle.dict_value.specs.declared.value.MaybeRow.{MaybeRow}
 use Rattle.dict_value.specs.declared.value.Value.{Value}
@@ -25,6 +27,11 @@ use Rattle.dict_functions.specs.declared.lines.LineFault.{LineFault}
 use Rattle.dict_functions.specs.declared.lines.LineFault.TheVariants as one
 use Rattle.dict_functions.specs.declared.lines.LinesFault.{LinesFault}
 use Rattle.dict_functions.specs.declared.lines.LinesFault.TheVariants as several
+
+-- what a field without a value means
+abbrev pub value_fault : BadValue → LineFault
+value_fault bad.NoMemory = one.NoMemory
+value_fault _ = one.Unread
 
 -- the lines of a lookup in a version, or why it is refused
 abbrev pub Answered : Contents → Asked → Result (List Line) ReplyFault → Type 0
