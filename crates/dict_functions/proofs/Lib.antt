@@ -1,6 +1,8 @@
 mod AskedLines
-mod Defaults
 mod Fitting
 mod KeyTypes
+mod KeysRead
 mod Listed
 mod SideBySide
+mod SoundColumns
+mod Unfitting

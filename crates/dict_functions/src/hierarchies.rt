@@ -1,11 +1,11 @@
 // Answers from the hierarchy of a version.
-ghost use Rattle.std.specs.Prelude.{◌≡◌, ◌++◌, ◌≢◌, ◌<◌, ◌^◌, ℕ, List, All, Err, IsTrue, true, length, OnOk};
+ghost use Rattle.std.specs.Prelude.{◌≡◌, ◌++◌, ◌≢◌, ◌<◌, ◌^◌, All, Err, IfOk, IsTrue, true, length, OnOk};
 ghost use Rattle.dict_value.specs.Memory.{UnlessNoMemory};
 ghost use Rattle.dict_version.specs.Kept.{IsHierarchyOf};
 ghost use Rattle.dict_functions.specs.Answers.{IsLoadedLine};
 ghost use Rattle.dict_functions.specs.Asking.{asks_hierarchy};
 ghost use Rattle.dict_functions.specs.Refusals.{HasKey};
-ghost use Rattle.dict_functions.specs.Values.{listed};
+ghost use Rattle.dict_functions.specs.Values.{IsHierarchyText, listed};
 ghost use Rattle.dict_functions.specs.steps.Lines.{Answered, IsFromText, key_count, listed_at};
 ghost use Rattle.wire_text.specs.declared.request.Verb.TheVariants as verb;
 ghost use Rattle.wire_text.specs.declared.reply.ReplyFault.TheVariants as fault;
@@ -13,8 +13,8 @@ ghost use Rattle.wire_text.specs.declared.reply.ReplyFault.TheVariants as fault;
 use crate::asking::key_fault;
 use crate::keys::read_number;
 use crate::lines::{LineFault, OfLine, each_line};
-use crate::replies::flag;
-use dict_value::{Bytes, Fields, ListOf, NoMemory, Uncounted, push_number};
+use crate::replies::{flag, line_of};
+use dict_value::{Bytes, Field, Fields, ListOf, NoMemory, Uncounted, push_number};
 use dict_version::Version;
 use hier::Hier;
 use std::alloc::Global;
@@ -50,20 +50,60 @@ struct HierarchyOf<'a> {
 }
 
 impl HierarchyOf<'_> {
-    /// The text for a key alone.
-    fn push_from(&self, alloc: Global, key: u64, out: &mut Bytes) -> Result<(), NoMemory>
+    /// The numbers that are listed for a key alone.
+    fn numbers_from(&self, alloc: Global, key: u64) -> Result<ListOf<u64>, NoMemory>
         requires verb { IsTrue (asks_hierarchy self.now.q.now.verb) }
         requires apart { self.now.q.now.verb ≢ verb.IsIn }
         requires hier { IsHierarchyOf self.now.version.now.definition self.now.version.now.rows self.now.hier.now }
-        ensures { OnOk result ((text : List ℕ) × (out.new ≡ out.old ++ text)
-            × IsFromText self.now.q.now self.now.version.now key text) }
+        ensures { IfOk result (λ numbers. IsFromText self.now.q.now self.now.version.now key (listed numbers)) }
     {
-        let numbers = match self.q.verb {
-            Verb::Hierarchy => self.hier.chain(alloc, key)?,
-            Verb::Children => self.hier.children(alloc, key)?,
-            _ => self.hier.descendants(alloc, key, self.q.level)?,
+        match self.q.verb {
+            Verb::Hierarchy => self.hier.chain(alloc, key),
+            Verb::Children => self.hier.children(alloc, key),
+            _ => self.hier.descendants(alloc, key, self.q.level),
+        }
+    }
+
+    /// The text for a line of one key.
+    fn text_from(&self, alloc: Global, fields: &[Field]) -> Result<Bytes, LineFault>
+        requires count { length fields.now ≡ 1 }
+        requires verb { IsTrue (asks_hierarchy self.now.q.now.verb) }
+        requires apart { self.now.q.now.verb ≢ verb.IsIn }
+        requires hier { IsHierarchyOf self.now.version.now.definition self.now.version.now.rows self.now.hier.now }
+        ensures made { IfOk result (λ text. IsHierarchyText self.now.version.now self.now.q.now fields.now text) }
+        ensures unread { result ≡ Err LineFault.Unread → ¬ (HasKey self.now.version.now.definition true fields.now) }
+    {
+        let Some(key) = read_number(alloc, &fields[0]) else {
+            return Err(LineFault::Unread);
         };
-        push_listed(out, numbers.as_slice())
+        let Ok(numbers) = self.numbers_from(alloc, key) else {
+            return Err(LineFault::NoMemory);
+        };
+        let mut text = Bytes::new(alloc);
+        match push_listed(&mut text, numbers.as_slice()) {
+            Ok(()) => Ok(text),
+            Err(_) => Err(LineFault::NoMemory),
+        }
+    }
+
+    /// The text for a line of a key and another, which may be above it.
+    fn text_in(&self, alloc: Global, fields: &[Field]) -> Result<Bytes, LineFault>
+        requires count { length fields.now ≡ 2 }
+        requires verb { self.now.q.now.verb ≡ verb.IsIn }
+        requires hier { IsHierarchyOf self.now.version.now.definition self.now.version.now.rows self.now.hier.now }
+        ensures made { IfOk result (λ text. IsHierarchyText self.now.version.now self.now.q.now fields.now text) }
+        ensures unread { result ≡ Err LineFault.Unread → ¬ (HasKey self.now.version.now.definition true fields.now) }
+    {
+        let Some(key) = read_number(alloc, &fields[0]) else {
+            return Err(LineFault::Unread);
+        };
+        let Some(ancestor) = read_number(alloc, &fields[1]) else {
+            return Err(LineFault::Unread);
+        };
+        match Bytes::copy_of(alloc, flag(self.hier.is_in(key, ancestor))) {
+            Ok(text) => Ok(text),
+            Err(_) => Err(LineFault::NoMemory),
+        }
     }
 }
 
@@ -78,21 +118,11 @@ impl OfLine for HierarchyOf<'_> {
     ghost makes = { λ of fields line. IsLoadedLine of.version.now of.q.now fields line };
 
     fn make(&self, alloc: Global, fields: &Fields) -> Result<Line, LineFault> {
-        let fields = fields.as_slice();
-        let Some(key) = read_number(alloc, &fields[0]) else {
-            return Err(LineFault::Unread);
+        let text = match self.q.verb {
+            Verb::IsIn => self.text_in(alloc, fields.as_slice()),
+            _ => self.text_from(alloc, fields.as_slice()),
         };
-        let mut text = Bytes::new(alloc);
-        match self.q.verb {
-            Verb::IsIn => {
-                let Some(ancestor) = read_number(alloc, &fields[1]) else {
-                    return Err(LineFault::Unread);
-                };
-                text.extend(flag(self.hier.is_in(key, ancestor)))?;
-            }
-            _ => self.push_from(alloc, key, &mut text)?,
-        }
-        Ok(Line { moment: 0, text })
+        line_of(text)
     }
 }
 
@@ -110,5 +140,8 @@ pub(crate) fn hierarchy_lines(
     let Some(hier) = version.hier() else {
         return Err(ReplyFault::WrongLayout);
     };
-    each_line(alloc, &HierarchyOf { version, hier, q }, &q.lines).map_err(key_fault)
+    match each_line(alloc, &HierarchyOf { version, hier, q }, &q.lines) {
+        Ok(lines) => Ok(lines),
+        Err(fault) => Err(key_fault(fault)),
+    }
 }

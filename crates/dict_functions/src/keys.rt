@@ -153,9 +153,14 @@ fn read_ranged(
         return Err(LineFault::Unread);
     }
     let count = fields.len() - 1;
-    let values = read_values(alloc, types, &fields[..count])?;
-    let point = read_point(alloc, d, &fields[count])?;
-    Ok(Key::Ranged(values, point))
+    let values = match read_values(alloc, types, &fields[..count]) {
+        Ok(values) => values,
+        Err(fault) => return Err(fault),
+    };
+    match read_point(alloc, d, &fields[count]) {
+        Ok(point) => Ok(Key::Ranged(values, point)),
+        Err(fault) => Err(fault),
+    }
 }
 
 /// The address that is the whole of a line.
@@ -189,7 +194,10 @@ pub(crate) fn read_key(
 {
     match lookup_by(&d.layout) {
         LookupBy::SmallNumber(_) | LookupBy::Number => only_number(alloc, fields),
-        LookupBy::KeyList => Ok(Key::List(read_values(alloc, types, fields)?)),
+        LookupBy::KeyList => match read_values(alloc, types, fields) {
+            Ok(values) => Ok(Key::List(values)),
+            Err(fault) => Err(fault),
+        },
         LookupBy::Range(_) => read_ranged(alloc, d, types, fields),
         LookupBy::Address => only_address(fields),
         LookupBy::Nothing => Err(LineFault::Unread),

@@ -1,26 +1,24 @@
 // Answers from one version.
-ghost use Rattle.std.specs.Prelude.{◌≡◌, ◌<◌, ◌^◌, ℕ, List, Err, MatchResult, IsTrue, None, false, length, ⊤};
-ghost use Rattle.std.specs.List.{AllZip};
+ghost use Rattle.std.specs.Prelude.{◌≡◌, ◌<◌, ◌^◌, Err, IfOk, IfSome, IsTrue, false, length};
 ghost use Rattle.cache_layout.specs.Fetching.{key_types};
-ghost use Rattle.dict_schema.specs.declared.definition.Definition.{Definition as DefinitionOf};
+ghost use Rattle.dict_schema.specs.Sound.{IsSound};
 ghost use Rattle.dict_value.specs.Memory.{UnlessNoMemory};
-ghost use Rattle.dict_value.specs.declared.value.Field.{Field as FieldOf};
 ghost use Rattle.dict_version.specs.Keys.{attribute_place};
-ghost use Rattle.dict_functions.specs.Answers.{AnswersSeen, IsLoadedLine};
-ghost use Rattle.dict_functions.specs.Asking.{IsAttributeNamed, IsLookup, asks_attribute};
-ghost use Rattle.dict_functions.specs.Refusals.{HasKey, IsFitting, IsRefusal};
-ghost use Rattle.dict_functions.specs.Values.{IsAttributeText, IsCellText, IsHasText};
+ghost use Rattle.dict_functions.specs.Answers.{AnswersSeen};
+ghost use Rattle.dict_functions.specs.Asking.{IsLookup, asks_attribute};
+ghost use Rattle.dict_functions.specs.Refusals.{HasKey};
+ghost use Rattle.dict_functions.specs.Values.{IsAttributeText, IsHasText};
 ghost use Rattle.wire_text.specs.declared.reply.Reply.TheVariants.{Refused};
 ghost use Rattle.wire_text.specs.declared.reply.ReplyFault.TheVariants as fault;
 ghost use Rattle.wire_text.specs.declared.request.Verb.TheVariants as verb;
-ghost use Rattle.dict_functions.specs.steps.Lines.{Answered, IsAttributeOf};
+ghost use Rattle.dict_functions.specs.steps.Lines.{Answered, HasCellText, IsAttributeOf};
 
 use crate::asking::{Attribute, asks_hierarchy, attribute_of, key_fault};
 use crate::hierarchies::hierarchy_lines;
 use crate::keys::{key_types, read_key};
 use crate::lines::{LineFault, OfLine, each_line};
 use crate::replies::{flag, reply_of};
-use dict_value::{AttrType, Bytes, Fields, ListOf, Uncounted};
+use dict_value::{AttrType, Bytes, Fields, ListOf, NoMemory, Uncounted};
 use dict_version::{Version, attribute_place};
 use std::alloc::Global;
 use version_slot::Seen;
@@ -37,6 +35,26 @@ struct AttributeOf<'a> {
     types: &'a [AttrType],
 }
 
+impl AttributeOf<'_> {
+    /// The text of the attribute in a row that was found, or of what stands in for it.
+    fn text_of(&self, alloc: Global, found: Option<u32>) -> Result<Bytes, NoMemory>
+        requires row { IfSome found (λ row. row < length self.now.version.now.rows) }
+        requires of { IsAttributeOf self.now.version.now.definition self.now.q.now self.now.attribute.now }
+        requires cell { self.now.cell ≡ attribute_place self.now.version.now.definition self.now.attribute.now.place }
+        requires sound { IsSound self.now.version.now.definition }
+        ensures { IfOk result (HasCellText self.now.version.now self.now.q.now self.now.attribute.now found) }
+    {
+        let Some(row) = found else {
+            return Bytes::copy_of(alloc, self.attribute.missing.as_slice());
+        };
+        let mut text = Bytes::new(alloc);
+        match self.version.write_cell(row, self.cell, &mut text) {
+            Ok(()) => Ok(text),
+            Err(_) => Err(NoMemory),
+        }
+    }
+}
+
 impl OfLine for AttributeOf<'_> {
     type Made = Line;
 
@@ -49,13 +67,14 @@ impl OfLine for AttributeOf<'_> {
     ghost makes = { λ of fields line. (line.moment ≡ 0) × IsAttributeText of.version.now of.q.now fields line.text };
 
     fn make(&self, alloc: Global, fields: &Fields) -> Result<Line, LineFault> {
-        let key = read_key(alloc, self.version.definition(), self.types, fields.as_slice())?;
-        let mut text = Bytes::new(alloc);
-        match self.version.find(&key, &mut Uncounted) {
-            Some(row) => self.version.write_cell(row, self.cell, &mut text)?,
-            None => text.extend(self.attribute.missing.as_slice())?,
+        let key = match read_key(alloc, self.version.definition(), self.types, fields.as_slice()) {
+            Ok(key) => key,
+            Err(fault) => return Err(fault),
+        };
+        match self.text_of(alloc, self.version.find(&key, &mut Uncounted)) {
+            Ok(text) => Ok(Line { moment: 0, text }),
+            Err(_) => Err(LineFault::NoMemory),
         }
-        Ok(Line { moment: 0, text })
     }
 }
 
@@ -76,10 +95,15 @@ impl OfLine for HasOf<'_> {
     ghost makes = { λ of fields line. (line.moment ≡ 0) × IsHasText of.version.now fields line.text };
 
     fn make(&self, alloc: Global, fields: &Fields) -> Result<Line, LineFault> {
-        let key = read_key(alloc, self.version.definition(), self.types, fields.as_slice())?;
-        let mut text = Bytes::new(alloc);
-        text.extend(flag(self.version.find(&key, &mut Uncounted).is_some()))?;
-        Ok(Line { moment: 0, text })
+        let key = match read_key(alloc, self.version.definition(), self.types, fields.as_slice()) {
+            Ok(key) => key,
+            Err(fault) => return Err(fault),
+        };
+        let found = self.version.find(&key, &mut Uncounted);
+        match Bytes::copy_of(alloc, flag(found.is_some())) {
+            Ok(text) => Ok(Line { moment: 0, text }),
+            Err(_) => Err(LineFault::NoMemory),
+        }
     }
 }
 
@@ -94,7 +118,10 @@ fn attribute_lines(
     ensures { UnlessNoMemory (Err fault.NoMemory) result (Answered version.now q.now result) }
 {
     let d = version.definition();
-    let attribute = attribute_of(alloc, d, q)?;
+    let attribute = match attribute_of(alloc, d, q) {
+        Ok(attribute) => attribute,
+        Err(fault) => return Err(fault),
+    };
     let Ok(types) = key_types(alloc, d) else {
         return Err(ReplyFault::NoMemory);
     };
@@ -105,7 +132,10 @@ fn attribute_lines(
         cell: attribute_place(d, attribute.place),
         types: types.as_slice(),
     };
-    each_line(alloc, &of, &q.lines).map_err(key_fault)
+    match each_line(alloc, &of, &q.lines) {
+        Ok(lines) => Ok(lines),
+        Err(fault) => Err(key_fault(fault)),
+    }
 }
 
 /// The lines of the question whether rows have keys.
@@ -125,7 +155,10 @@ fn has_lines(
         version,
         types: types.as_slice(),
     };
-    each_line(alloc, &of, &q.lines).map_err(key_fault)
+    match each_line(alloc, &of, &q.lines) {
+        Ok(lines) => Ok(lines),
+        Err(fault) => Err(key_fault(fault)),
+    }
 }
 
 /// The lines of a lookup, or the first reason why it is refused.

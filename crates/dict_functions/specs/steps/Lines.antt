@@ -1,5 +1,5 @@
 -- What is made of the lines of a lookup, and what their faults mean.
-use Rattle.std.specs.Prelude.{◌≡◌, ◌∷◌, [], ℕ, zero, suc, List, Result, MatchResult, decimal}
+use Rattle.std.specs.Prelude.{◌≡◌, ◌∷◌, [], ℕ, zero, suc, List, Option, Result, Ok, Err, MatchResult, decimal}
 use Rattle.std.specs.List.{AllZip}
 use Rattle.dict_schema.specs.declared.definition.Column.{Column}
 use Rattle.dict_schema.specs.declared.definition.Definition.{Definition}
@@ -21,7 +21,7 @@ use Rattle.wire_text.specs.declared.request.Verb.TheVariants as verb
 use Rattle.dict_functions.specs.Answers.{IsFetchedText, IsLoadedLine, is_present}
 use Rattle.dict_functions.specs.Asking.{IsAttributeNamed}
 use Rattle.dict_functions.specs.Refusals.{IsFitting, IsRefusal}
-use Rattle.dict_functions.specs.Values.{AnswersVerb, StandsIn, flag}
+use Rattle.dict_functions.specs.Values.{AnswersVerb, IsCellText, StandsIn, flag}
 use Rattle.dict_functions.specs.declared.asking.Attribute.{Attribute}
 use Rattle.dict_functions.specs.declared.lines.LineFault.{LineFault}
 use Rattle.dict_functions.specs.declared.lines.LineFault.TheVariants as one
@@ -33,11 +33,22 @@ abbrev pub value_fault : BadValue → LineFault
 value_fault bad.NoMemory = one.NoMemory
 value_fault _ = one.Unread
 
+-- the line of a lookup in a version, by its text
+abbrev pub line_of : Result (List ℕ) LineFault → Result Line LineFault
+line_of (Ok text) = Ok record { moment = 0; text = text }
+line_of (Err fault) = Err fault
+
 -- the lines of a lookup in a version, or why it is refused
 abbrev pub Answered : Contents → Asked → Result (List Line) ReplyFault → Type 0
 Answered c q result =
     MatchResult result (λ lines. IsFitting c.definition q × AllZip (IsLoadedLine c q) q.lines lines)
         (IsRefusal c.definition q)
+
+-- the text of the attribute for a row that was found, or for none
+abbrev pub HasCellText : Contents → Asked → Attribute → Option ℕ → List ℕ → Type 0
+HasCellText c q attribute found text =
+    (column : Column) × IsAttributeNamed c.definition q.attribute attribute.place column
+    × IsCellText c q attribute.place column found text
 
 -- the attribute that is asked for, and the text of what stands in for it
 pub record IsAttributeOf (d : Definition) (q : Asked) (attribute : Attribute) : Type 0 where

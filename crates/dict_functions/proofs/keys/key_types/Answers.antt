@@ -14,5 +14,5 @@ loop-key-preserved c =
           type-more d i c.from.result c.loop-key.types c.match-column_at.types low at c.loop-key.invariant w.in-Some.column.now w.in-Some.ensures
           (w.types-is ∙ w.in_ok-push.ensures.ok)
       | in_default w ↦
-          type-same d i c.from.result c.loop-key.types c.match-column_at.types low at c.loop-key.invariant ? w.types-is
+          type-same d i c.from.result c.loop-key.types c.match-column_at.types low at c.loop-key.invariant w.in_default.ensures w.types-is
     ]
