@@ -4,7 +4,6 @@ use Rattle.std.specs.Prelude.{unsigned_abs}
 use Rattle.std.proofs.lemmas.Bool.{cases_lt}
 use Rattle.dict_value.specs.Numbers.{is_within}
 use Rattle.dict_value.specs.Values.{FitsColumn, HasType}
-use Rattle.dict_value.specs.declared.decimals.TheConstants.{DECIMAL_DIGITS}
 use Rattle.dict_value.specs.declared.value.AttrType.{AttrType}
 use Rattle.dict_value.specs.declared.value.ColType.{ColType}
 use Rattle.dict_value.specs.declared.value.ColType.TheVariants as type
@@ -174,7 +173,7 @@ typed (type.Decimal digits scale) (Second n) un = absurd (un (λ h. h))
 typed (type.Decimal digits scale) (Id n) un = absurd (un (λ h. h))
 typed (type.Decimal digits scale) (V4 n) un = absurd (un (λ h. h))
 typed (type.Decimal digits scale) (V6 n) un = absurd (un (λ h. h))
-typed (type.Decimal digits scale) (Dec z) un = below (unsigned_abs z) (10 ^ min digits DECIMAL_DIGITS) un
+typed (type.Decimal digits scale) (Dec z) un = below (unsigned_abs z) (10 ^ min digits 38) un
 typed (type.Decimal digits scale) Null un = absurd (un (λ h. h))
 
 pub fits : (t : AttrType) (v : Value) → CantFail (FitsColumn t v) → FitsColumn t v

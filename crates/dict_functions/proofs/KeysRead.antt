@@ -7,7 +7,7 @@ use Rattle.dict_value.specs.declared.value.Value.{Value}
 use Rattle.dict_version.specs.declared.key.Key.{Key}
 use Rattle.dict_version.specs.declared.key.Key.TheVariants as key
 use Rattle.dict_version.specs.declared.lookup.LookupBy.TheVariants as by
-use Rattle.range_layout.specs.declared.strategy.Strategy.{Strategy}
+use Rattle.dict_schema.specs.declared.definition.Strategy.{Strategy}
 use Rattle.dict_functions.specs.Keys.{ReadsAs, ReadsKeyBy, ReadsNumber, ReadsNumbers, ReadsPoint, ReadsRanged}
 
 last-of : (front : List Field) (last d : Field) → get_or (front ++ last ∷ []) (length front) d ≡ last

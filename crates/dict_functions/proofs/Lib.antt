@@ -1,5 +1,7 @@
 mod AskedLines
+mod Cells
 mod Fitting
+mod HierarchyTexts
 mod KeyTypes
 mod KeysRead
 mod Listed

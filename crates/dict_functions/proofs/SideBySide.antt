@@ -110,3 +110,11 @@ pub first-number : (fields : List Field) (n : ℕ) (field : Field) → field ≡
     → ReadsNumbers fields (n ∷ []) → ReadsNumber field n
 first-number [] n field at reads = absurd reads
 first-number (f ∷ fields) n field at reads = subst (λ x. ReadsNumber x n) (sym at) reads.0
+
+-- what holds of each two, in other words
+pub zip-weaker : {A B : Type 0} (P Q : A → B → Type 0) → ((x : A) (y : B) → P x y → Q x y) → (xs : List A) (ys : List B) → AllZip P xs ys
+    → AllZip Q xs ys
+zip-weaker P Q to [] [] zip = tt
+zip-weaker P Q to [] (y ∷ ys) zip = absurd zip
+zip-weaker P Q to (x ∷ xs) [] zip = absurd zip
+zip-weaker P Q to (x ∷ xs) (y ∷ ys) zip = (to x y zip.0, zip-weaker P Q to xs ys zip.1)

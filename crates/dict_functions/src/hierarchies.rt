@@ -13,7 +13,7 @@ ghost use Rattle.wire_text.specs.declared.reply.ReplyFault.TheVariants as fault;
 use crate::asking::key_fault;
 use crate::keys::read_number;
 use crate::lines::{LineFault, OfLine, each_line};
-use crate::replies::{flag, line_of};
+use crate::replies::flag;
 use dict_value::{Bytes, Field, Fields, ListOf, NoMemory, Uncounted, push_number};
 use dict_version::Version;
 use hier::Hier;
@@ -105,6 +105,20 @@ impl HierarchyOf<'_> {
             Err(_) => Err(LineFault::NoMemory),
         }
     }
+
+    /// The text for a line.
+    fn text_of(&self, alloc: Global, fields: &[Field]) -> Result<Bytes, LineFault>
+        requires count { length fields.now ≡ key_count self.now.q.now.verb }
+        requires verb { IsTrue (asks_hierarchy self.now.q.now.verb) }
+        requires hier { IsHierarchyOf self.now.version.now.definition self.now.version.now.rows self.now.hier.now }
+        ensures made { IfOk result (λ text. IsHierarchyText self.now.version.now self.now.q.now fields.now text) }
+        ensures unread { result ≡ Err LineFault.Unread → ¬ (HasKey self.now.version.now.definition true fields.now) }
+    {
+        match self.q.verb {
+            Verb::IsIn => self.text_in(alloc, fields),
+            _ => self.text_from(alloc, fields),
+        }
+    }
 }
 
 impl OfLine for HierarchyOf<'_> {
@@ -118,11 +132,10 @@ impl OfLine for HierarchyOf<'_> {
     ghost makes = { λ of fields line. IsLoadedLine of.version.now of.q.now fields line };
 
     fn make(&self, alloc: Global, fields: &Fields) -> Result<Line, LineFault> {
-        let text = match self.q.verb {
-            Verb::IsIn => self.text_in(alloc, fields.as_slice()),
-            _ => self.text_from(alloc, fields.as_slice()),
-        };
-        line_of(text)
+        match self.text_of(alloc, fields.as_slice()) {
+            Ok(text) => Ok(Line { moment: 0, text }),
+            Err(fault) => Err(fault),
+        }
     }
 }
 

@@ -5,23 +5,11 @@ ghost use Rattle.dict_value.specs.declared.value.Value.TheVariants.{Null};
 ghost use Rattle.row_text.specs.Written.{printed};
 ghost use Rattle.dict_functions.specs.Replies.{IsReplyOf};
 ghost use Rattle.dict_functions.specs.Values.{flag};
-ghost use Rattle.dict_functions.specs.steps.Lines.{line_of};
 
-use crate::lines::LineFault;
 use dict_value::{AttrType, Bytes, ListOf, NoMemory, Value};
 use dict_version::print_cell;
 use packed_rows::cell_of;
 use wire_text::{Line, Mark, Reply};
-
-/// The line of a version's lookup, by its text.
-pub(crate) fn line_of(text: Result<Bytes, LineFault>) -> Result<Line, LineFault>
-    ensures { result ≡ line_of text }
-{
-    match text {
-        Ok(text) => Ok(Line { moment: 0, text }),
-        Err(fault) => Err(fault),
-    }
-}
 
 /// The reply of some lines: a block, or the one line of a single lookup.
 pub(crate) fn reply_of(block: bool, mark: Mark, mut lines: ListOf<Line>) -> Reply

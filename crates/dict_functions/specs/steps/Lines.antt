@@ -1,5 +1,5 @@
 -- What is made of the lines of a lookup, and what their faults mean.
-use Rattle.std.specs.Prelude.{◌≡◌, ◌∷◌, [], ℕ, zero, suc, List, Option, Result, Ok, Err, MatchResult, decimal}
+use Rattle.std.specs.Prelude.{◌≡◌, ◌∷◌, [], ℕ, zero, suc, List, Option, Result, MatchResult, decimal}
 use Rattle.std.specs.List.{AllZip}
 use Rattle.dict_schema.specs.declared.definition.Column.{Column}
 use Rattle.dict_schema.specs.declared.definition.Definition.{Definition}
@@ -32,11 +32,6 @@ use Rattle.dict_functions.specs.declared.lines.LinesFault.TheVariants as several
 abbrev pub value_fault : BadValue → LineFault
 value_fault bad.NoMemory = one.NoMemory
 value_fault _ = one.Unread
-
--- the line of a lookup in a version, by its text
-abbrev pub line_of : Result (List ℕ) LineFault → Result Line LineFault
-line_of (Ok text) = Ok record { moment = 0; text = text }
-line_of (Err fault) = Err fault
 
 -- the lines of a lookup in a version, or why it is refused
 abbrev pub Answered : Contents → Asked → Result (List Line) ReplyFault → Type 0
