@@ -60,7 +60,7 @@ pub two-numbers : (fields : List Field) (n m : ℕ) (first second : Field) → l
 two-numbers [] n m first second long at and p q = absurd (omega (arith, long))
 two-numbers (f ∷ []) n m first second long at and p q = absurd (omega (arith, long))
 two-numbers (f ∷ g ∷ []) n m first second long at and p q =
-    (subst (λ x. ReadsNumber x n) at p, subst (λ x. ReadsNumber x m) and q, tt)
+    (subst (λ x. ReadsNumber x n) at p, (subst (λ x. ReadsNumber x m) and q, tt))
 two-numbers (f ∷ g ∷ h ∷ fields) n m first second long at and p q = absurd (omega (arith, long))
 
 module _ (d : Definition) (fields : List Field) where

@@ -1,5 +1,5 @@
 -- What a lookup that fits asks for, and why another is refused.
-use Rattle.std.proofs.Common.{◌≡◌, ◌≢◌, ◌<◌, ◌⊎◌, ◌∙◌, ℕ, List, Some, Ok, Err, Result, true, false, inl, inr, refl, sym, ap, subst, slice_get, IsTrue}
+use Rattle.std.proofs.Common.{◌≡◌, ◌≢◌, ◌<◌, ◌⊎◌, ◌∙◌, ℕ, List, Some, Ok, Err, Result, Bool, true, false, if◌then◌else◌, inl, inr, refl, sym, ap, subst, slice_get, IsTrue}
 use Rattle.std.proofs.lemmas.Option.{same_Some}
 use Rattle.dict_schema.specs.Sound.{IsSound}
 use Rattle.dict_schema.specs.declared.definition.Column.{Column}
@@ -8,6 +8,8 @@ use Rattle.dict_value.proofs.ReadTypes.{read-typed}
 use Rattle.dict_value.specs.Memory.{UnlessNoMemory}
 use Rattle.dict_value.specs.Values.{FitsColumn, HasType, reading}
 use Rattle.dict_value.specs.declared.value.AttrType.{AttrType}
+use Rattle.dict_value.specs.declared.value.BadValue.{BadValue}
+use Rattle.dict_value.specs.declared.value.BadValue.TheVariants.{NullNotAllowed}
 use Rattle.dict_value.specs.declared.value.Field.{Field}
 use Rattle.dict_value.specs.declared.value.Field.TheVariants as field
 use Rattle.dict_value.specs.declared.value.Value.{Value}
@@ -41,6 +43,18 @@ not-both verb.IsIn a h = cc
 not-both verb.Children a h = cc
 not-both verb.Descendants a h = cc
 
+-- so one that asks for an attribute asks for no hierarchy
+pub no-hierarchy-asked : (v : Verb) → IsTrue (asks_attribute v) → asks_hierarchy v ≡ false
+no-hierarchy-asked verb.Get a = refl
+no-hierarchy-asked verb.GetOrDefault a = refl
+no-hierarchy-asked verb.GetOrNull a = refl
+no-hierarchy-asked verb.Has a = refl
+no-hierarchy-asked verb.Call a = refl
+no-hierarchy-asked verb.Hierarchy a = absurd (cc)
+no-hierarchy-asked verb.IsIn a = absurd (cc)
+no-hierarchy-asked verb.Children a = absurd (cc)
+no-hierarchy-asked verb.Descendants a = absurd (cc)
+
 -- a value of a type fits its column
 typed-fits : (t : AttrType) (v : Value) → HasType t.base v → (v ≡ Null) ⊎ FitsColumn t v
 typed-fits t Null has = inl refl
@@ -54,12 +68,14 @@ typed-fits t (V4 n) has = inr has
 typed-fits t (V6 n) has = inr has
 typed-fits t (Dec n) has = inr has
 
+null-fits : (t : AttrType) (b : Bool) (v : Value) → ◌≡◌ {A = Result Value BadValue} (if b then Ok Null else Err NullNotAllowed) (Ok v)
+    → (v ≡ Null) ⊎ FitsColumn t v
+null-fits t true v read = let same : v ≡ Null = cc in inl same
+null-fits t false v read = absurd (cc)
+
 pub read-fits : (t : AttrType) (f : Field) (v : Value) → reading t f ≡ Ok v → (v ≡ Null) ⊎ FitsColumn t v
 read-fits t (field.Text text) v read = typed-fits t v (read-typed t.base text v read)
-read-fits t field.Null v read = null-read t.nullable v read where
-  null-read : {t : AttrType} (b : Rattle.std.proofs.Common.Bool) (v : Value) → reading record t { nullable = b } field.Null ≡ Ok v → (v ≡ Null) ⊎ FitsColumn t v
-  null-read true v read = let same : v ≡ Null = cc in inl same
-  null-read false v read = absurd (cc)
+read-fits t field.Null v read = null-fits t t.nullable v read
 
 -- what stands in for an attribute can be printed
 pub stand-in-fits : (d : Definition) → IsSound d → (v : Verb) (place : ℕ) (column : Column) (fallback : Field) (value : Value)

@@ -5,7 +5,7 @@ ghost use Rattle.dict_value.specs.declared.value.Field.{Field as FieldOf};
 ghost use Rattle.dict_functions.specs.Keys.{IsFirstWithout};
 ghost use Rattle.dict_functions.specs.steps.Lines.{value_fault};
 
-use dict_value::{BadValue, Fields, ListOf, NoMemory};
+use dict_value::{BadValue, Fields, ListOf};
 use std::alloc::Global;
 
 /// Why nothing is made of a line.
@@ -13,16 +13,6 @@ use std::alloc::Global;
 pub(crate) enum LineFault {
     Unread,
     NoMemory,
-}
-
-impl From<NoMemory> for LineFault {
-    ghost use Rattle.std.specs.Prelude.{◌≡◌};
-
-    fn from(_fault: NoMemory) -> LineFault
-        ensures { result ≡ LineFault.NoMemory }
-    {
-        LineFault::NoMemory
-    }
 }
 
 /// Why nothing is made of a line with a field that has no value.
