@@ -1,12 +1,12 @@
 -- How many lines a lookup has, and how many fields a line by which a hierarchy is asked.
 use Rattle.std.proofs.Common.{◌≡◌, ◌≢◌, ◌<◌, ◌≤◌, ◌+◌, ◌^◌, ◌∷◌, ◌∙◌, [], ℕ, List, Bool, true, false, length, refl, sym, ap, subst, arith, IsTrue}
-use Rattle.std.specs.Prelude.{All}
+use Rattle.std.specs.Prelude.{All, ⊤}
 use Rattle.std.specs.List.{AllZip}
 use Rattle.std.proofs.lemmas.List.Elements.{All-cons, All-nil}
 use Rattle.std.proofs.lemmas.Slice.Zip.{AllZip-long}
 use Rattle.dict_value.specs.declared.value.Field.{Field}
 use Rattle.row_text.specs.TabRow.{IsTabRow}
-use Rattle.wire_text.specs.Requests.{AsksFor, IsLookup as IsLookupHead, IsRequest}
+use Rattle.wire_text.specs.Requests.{AsksFor, IsLookup as IsLookupHead, IsRequest, asked_above}
 use Rattle.wire_text.specs.declared.lines.TheConstants.{MOST_BLOCK_LINES}
 use Rattle.wire_text.specs.declared.request.Asked.{Asked}
 use Rattle.wire_text.specs.declared.request.Request.{Request}
@@ -40,7 +40,7 @@ one_line P keys here = All-cons P keys [] here (All-nil P)
 
 -- a line with so many fields asks for a hierarchy
 asks_above : (v : Verb) (name : List ℕ) (keys : List Field) (level count : ℕ) → length keys ≡ key_count v
-    → HasLinesOf count (request.Asked record { verb = v; name = name; attribute = []; fallback = Rattle.dict_value.specs.declared.value.Field.TheVariants.Null; level = level; block = false; lines = keys ∷ [] })
+    → HasLinesOf count (asked_above v name keys level)
 asks_above v name keys level count long = record {
   one = λ e. refl;
   most = omega arith;
@@ -87,12 +87,12 @@ module _ (q : Asked) (asked : IsAsked q) where
 
 -- a verb that asks for no hierarchy asks for an attribute, unless it is one of the two others
 pub asks-attribute : (v : Verb) → asks_hierarchy v ≡ false → v ≢ verb.Has → v ≢ verb.Call → IsTrue (asks_attribute v)
-asks-attribute verb.Get h not no = refl
-asks-attribute verb.GetOrDefault h not no = refl
-asks-attribute verb.GetOrNull h not no = refl
-asks-attribute verb.Has h not no = absurd (not refl)
-asks-attribute verb.Call h not no = absurd (no refl)
-asks-attribute verb.Hierarchy h not no = absurd (cc)
-asks-attribute verb.IsIn h not no = absurd (cc)
-asks-attribute verb.Children h not no = absurd (cc)
-asks-attribute verb.Descendants h not no = absurd (cc)
+asks-attribute verb.Get h has call = refl
+asks-attribute verb.GetOrDefault h has call = refl
+asks-attribute verb.GetOrNull h has call = refl
+asks-attribute verb.Has h has call = absurd (has refl)
+asks-attribute verb.Call h has call = absurd (call refl)
+asks-attribute verb.Hierarchy h has call = absurd (cc)
+asks-attribute verb.IsIn h has call = absurd (cc)
+asks-attribute verb.Children h has call = absurd (cc)
+asks-attribute verb.Descendants h has call = absurd (cc)

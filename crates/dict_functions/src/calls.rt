@@ -55,7 +55,10 @@ pub fn rows_of(alloc: Global, f: &FunctionDef, q: &Asked) -> Result<ListOf<Row>,
     let of = ValuesOf {
         types: types.as_slice(),
     };
-    let rows = each_line(alloc, &of, &q.lines).map_err(argument_fault)?;
+    let rows = match each_line(alloc, &of, &q.lines) {
+        Ok(rows) => rows,
+        Err(fault) => return Err(argument_fault(fault)),
+    };
     match has_too_large(alloc, f.source.format, types.as_slice(), rows.as_slice()) {
         Ok(false) => Ok(rows),
         Ok(true) => Err(ReplyFault::TooLarge),

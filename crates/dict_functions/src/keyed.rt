@@ -1,11 +1,11 @@
 // Lookups in a keyed dictionary: the keys that are to be fetched, and the answer from the rows that came.
-ghost use Rattle.std.specs.Prelude.{◌≡◌, ◌<◌, ◌^◌, List, All, Err, IfOk, MatchResult, length, true, ⊤};
+ghost use Rattle.std.specs.Prelude.{◌≡◌, ◌≢◌, ◌<◌, All, Err, IfOk, MatchResult, length, true};
+ghost use Rattle.wire_text.specs.declared.request.Verb.TheVariants as verb;
 ghost use Rattle.std.specs.List.{AllZip};
 ghost use Rattle.cache_layout.specs.Fetching.{FitsReply};
 ghost use Rattle.dict_schema.specs.Parts.{is_keyed_layout};
 ghost use Rattle.dict_schema.specs.Sound.{IsSound};
 ghost use Rattle.dict_value.specs.Memory.{UnlessNoMemory};
-ghost use Rattle.dict_value.specs.declared.value.Field.{Field as FieldOf};
 ghost use Rattle.dict_functions.specs.Answers.{AnswersKeyed, AreFetched, AreKeys, IsKeyedLine, fetched_place};
 ghost use Rattle.dict_functions.specs.Answers.{keyed_mark};
 ghost use Rattle.dict_functions.specs.Asking.{IsLookup};
@@ -31,16 +31,20 @@ use wire_text::{Asked, Line, Mark, Reply, ReplyFault, Verb};
 fn check_fit(alloc: Global, d: &Definition, q: &Asked) -> Result<(), ReplyFault>
     requires keyed { is_keyed_layout d.now.layout ≡ true }
     requires sound { IsSound d.now }
+    requires lookup { q.now.verb ≢ verb.Call }
     ensures { UnlessNoMemory (Err fault.NoMemory) result
         (MatchResult result (λ _. IsFitting d.now q.now) (IsUnfitting d.now q.now)) }
 {
     if asks_hierarchy(q.verb) {
         return Err(ReplyFault::WrongLayout);
     }
-    if asks_attribute(q.verb) {
-        attribute_of(alloc, d, q)?;
+    if !asks_attribute(q.verb) {
+        return Ok(());
     }
-    Ok(())
+    match attribute_of(alloc, d, q) {
+        Ok(_) => Ok(()),
+        Err(fault) => Err(fault),
+    }
 }
 
 /// The keys that a lookup in a keyed dictionary asks for, one for each line, or why it is refused: no hierarchy,
@@ -52,14 +56,19 @@ pub fn keys_of(alloc: Global, d: &Definition, q: &Asked) -> Result<ListOf<KeyLis
     ensures { UnlessNoMemory (Err fault.NoMemory) result
         (MatchResult result (AreKeys d.now q.now) (IsKeyedRefusal d.now q.now)) }
 {
-    check_fit(alloc, d, q)?;
+    if let Err(fault) = check_fit(alloc, d, q) {
+        return Err(fault);
+    }
     let Ok(types) = key_types(alloc, d) else {
         return Err(ReplyFault::NoMemory);
     };
     let of = ValuesOf {
         types: types.as_slice(),
     };
-    let keys = each_line(alloc, &of, &q.lines).map_err(key_fault)?;
+    let keys = match each_line(alloc, &of, &q.lines) {
+        Ok(keys) => keys,
+        Err(fault) => return Err(key_fault(fault)),
+    };
     match has_too_large(alloc, d.source.format, types.as_slice(), keys.as_slice()) {
         Ok(false) => Ok(keys),
         Ok(true) => Err(ReplyFault::TooLarge),
@@ -87,8 +96,7 @@ fn has_lines(alloc: Global, rows: &Fetched) -> Result<ListOf<Line>, NoMemory>
 {
     let mut lines = ListOf::with_room(alloc, rows.len())?;
     for fetched in rows.as_slice() {
-        let mut text = Bytes::new(alloc);
-        text.extend(flag(matches!(fetched.row, MaybeRow::Present(_))))?;
+        let text = Bytes::copy_of(alloc, flag(matches!(fetched.row, MaybeRow::Present(_))))?;
         lines.push(Line {
             moment: fetched.moment,
             text,
@@ -110,16 +118,16 @@ fn attribute_text(
     requires of { IsAttributeOf d.now q.now attribute.now }
     ensures { IfOk result (λ text. HasFetchedText d.now q.now row.now text) }
 {
+    let MaybeRow::Present(row) = row else {
+        return Bytes::copy_of(alloc, attribute.missing.as_slice());
+    };
+    let column = &d.columns.as_slice()[attribute.place as usize];
+    let value = &row.as_slice()[fetched_place(d, attribute.place) as usize];
     let mut text = Bytes::new(alloc);
-    match row {
-        MaybeRow::Absent => text.extend(attribute.missing.as_slice())?,
-        MaybeRow::Present(row) => {
-            let column = &d.columns.as_slice()[attribute.place as usize];
-            let value = &row.as_slice()[fetched_place(d, attribute.place) as usize];
-            print_value(&column.ty, value, &mut text)?;
-        }
+    match print_value(&column.ty, value, &mut text) {
+        Ok(()) => Ok(text),
+        Err(_) => Err(NoMemory),
     }
-    Ok(text)
 }
 
 /// The lines of an attribute in fetched rows.

@@ -36,7 +36,26 @@ fn written_fields(alloc: Global, types: &[AttrType], values: &[Value]) -> Result
     Ok(fields)
 }
 
-/// How many bytes the row of some values takes that a child is sent. The row is written to `scratch`.
+/// Appends the row of some values as a child is sent it.
+fn write_values(
+    alloc: Global,
+    format: Format,
+    types: &[AttrType],
+    values: &[Value],
+    out: &mut Bytes,
+) -> Result<(), NoMemory>
+    requires fit { AllZip FitsColumn types.now values.now }
+    requires some { types.now ≢ [] }
+    ensures { OnOk result (out.new ≡ out.old ++ written_row format types.now values.now) }
+{
+    let fields = written_fields(alloc, types, values)?;
+    match format {
+        Format::Tab => write_row(fields.as_slice(), out),
+        Format::Csv => write_csv_row(alloc, fields.as_slice(), out),
+    }
+}
+
+/// How many bytes that row takes. It is written to `scratch`.
 fn row_size(
     alloc: Global,
     format: Format,
@@ -48,12 +67,8 @@ fn row_size(
     requires some { types.now ≢ [] }
     ensures { IfOk result (λ size. size ≡ length (written_row format types.now values.now)) }
 {
-    let fields = written_fields(alloc, types, values)?;
     scratch.clear();
-    match format {
-        Format::Tab => write_row(fields.as_slice(), scratch)?,
-        Format::Csv => write_csv_row(alloc, fields.as_slice(), scratch)?,
-    }
+    write_values(alloc, format, types, values, scratch)?;
     Ok(scratch.len())
 }
 
