@@ -1,5 +1,5 @@
 -- The answer to a lookup or a call: from one version, from fetched rows, or from a function's values.
-use Rattle.std.specs.Prelude.{◌≡◌, ◌-◌, ◌∷◌, [], ℕ, if◌then◌else◌, List, Bool, true, false, Option, Some, None, slice_get}
+use Rattle.std.specs.Prelude.{◌≡◌, ◌-◌, ◌∷◌, [], ℕ, if◌then◌else◌, List, All, Bool, true, false, Option, Some, None, slice_get}
 use Rattle.std.specs.Prelude.{MatchOption, length}
 use Rattle.std.specs.List.{AllZip}
 use Rattle.cache_layout.specs.Fetching.{CanBeSent, FitsReply, IsKeyOf, key_types}
@@ -58,7 +58,7 @@ pub record AreFetched (d : Definition) (q : Asked) (rows : List FetchedRow) : Ty
   pub keys : List (List Value)
   pub are : AreKeys d q keys
   pub each : length rows ≡ length keys
-  pub fit : (i : ℕ) (row : FetchedRow) → slice_get rows i ≡ Some row → FitsReply d row.row
+  pub fit : All (λ (row : FetchedRow). FitsReply d row.row) rows
 
 -- the place of an attribute in a fetched row; rows without their keys begin behind them
 abbrev pub fetched_place : Definition → ℕ → ℕ
@@ -109,7 +109,7 @@ pub record AreGiven (f : FunctionDef) (q : Asked) (values : List Value) : Type 0
   pub rows : List (List Value)
   pub are : AreArguments f q rows
   pub each : length values ≡ length rows
-  pub fit : (i : ℕ) (v : Value) → slice_get values i ≡ Some v → FitsColumn f.returns v
+  pub fit : All (FitsColumn f.returns) values
 
 -- the line of a value that a function gave; it tells no moment
 pub record IsGivenLine (f : FunctionDef) (v : Value) (line : Line) : Type 0 where
