@@ -1,12 +1,10 @@
 mod AskedLines
 mod Cells
-mod FetchedRows
 mod Fitting
 mod HierarchyTexts
 mod KeyTypes
 mod KeysRead
 mod Listed
-mod SentRows
 mod SideBySide
 mod SoundColumns
 mod Unfitting

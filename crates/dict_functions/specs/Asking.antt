@@ -17,12 +17,9 @@ pub record IsAsked (q : Asked) : Type 0 where
   pub reads : IsRequest first more (request.Asked q)
   pub few : length more ≤ MOST_BLOCK_LINES
 
--- a lookup in a dictionary, and a call of a function
+-- a lookup in a dictionary; a call asks a function
 abbrev pub IsLookup : Asked → Type 0
 IsLookup q = IsAsked q × (q.verb ≢ verb.Call)
-
-abbrev pub IsCall : Asked → Type 0
-IsCall q = IsAsked q × (q.verb ≡ verb.Call)
 
 -- whether a verb asks for a hierarchy
 abbrev pub asks_hierarchy : Verb → Bool

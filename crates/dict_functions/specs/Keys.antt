@@ -1,4 +1,4 @@
--- What the fields of a line are: a key, numbers of a hierarchy, or the arguments of a function.
+-- What the fields of a line are: a key, or numbers of a hierarchy.
 use Rattle.std.specs.Prelude.{◌≡◌, ◌+◌, ◌∷◌, ◌++◌, [], ℕ, ℤ, List, All, Option, Some, None, Ok, length, slice_get, ⊤}
 use Rattle.std.specs.Option.{option_map}
 use Rattle.std.specs.List.{AllZip}

@@ -1,4 +1,4 @@
--- Why a lookup or a call is refused: the first reason in this order.
+-- Why a lookup is refused: the first reason in this order.
 use Rattle.std.specs.Prelude.{◌≡◌, ◌≢◌, ◌<◌, ◌∷◌, ◌++◌, ℕ, List, All, Bool, true, false, Ok, IsTrue, length, map}
 use Rattle.cache_layout.specs.Fetching.{key_types}
 use Rattle.row_text.specs.Written.{written_row}
@@ -60,32 +60,3 @@ pub data IsRefusal (d : Definition) (q : Asked) : ReplyFault → Type 0 where
   unfitting : {f : ReplyFault} → IsUnfitting d q f → IsRefusal d q f
   key : {line : ℕ} → IsFitting d q → IsFirstWithout (HasKey d (asks_hierarchy q.verb)) q.lines line
       → IsRefusal d q (fault.BadKey line)
-
--- the fields write values of these types
-abbrev pub HasValues : List AttrType → List Field → Type 0
-HasValues types fields = (values : List Value) × ReadsAs types fields values
-
--- the values of some line have a row that is too long to be sent
-abbrev pub HasTooLarge : Format → List AttrType → List (List Field) → Type 0
-HasTooLarge format types lines =
-    All (HasValues types) lines
-    × ((before : List (List Field)) × (fields : List Field) × (after : List (List Field)) × (values : List Value)
-    × (lines ≡ before ++ fields ∷ after) × ReadsAs types fields values
-    × (MOST_KEY_BYTES < length (written_row format types values)))
-
--- why the keys of a lookup can't be fetched: it doesn't fit, or else a line has no key, or else a row is too large
-pub data IsKeyedRefusal (d : Definition) (q : Asked) : ReplyFault → Type 0 where
-  unfitting : {f : ReplyFault} → IsUnfitting d q f → IsKeyedRefusal d q f
-  key : {line : ℕ} → IsFitting d q → IsFirstWithout (HasValues (key_types d)) q.lines line
-      → IsKeyedRefusal d q (fault.BadKey line)
-  large : IsFitting d q → HasTooLarge d.source.format (key_types d) q.lines → IsKeyedRefusal d q fault.TooLarge
-
--- the types of a function's arguments
-abbrev pub argument_types : FunctionDef → List AttrType
-argument_types f = map (λ argument. argument.ty) f.args
-
--- why a function can't be called: the arguments of a line don't fit, or else a row is too large
-pub data IsCallRefusal (f : FunctionDef) (q : Asked) : ReplyFault → Type 0 where
-  argument : {line : ℕ} → IsFirstWithout (HasValues (argument_types f)) q.lines line
-      → IsCallRefusal f q (fault.BadArgument line)
-  large : HasTooLarge f.source.format (argument_types f) q.lines → IsCallRefusal f q fault.TooLarge

@@ -8,10 +8,9 @@ ghost use Rattle.dict_version.specs.declared.key.Key.{Key as KeyOf};
 ghost use Rattle.dict_functions.specs.Keys.{ReadsAddress, ReadsAs, ReadsKey, ReadsNumber, ReadsNumbers, ReadsPoint, ReadsRanged, point_type};
 ghost use Rattle.range_layout.specs.declared.ends.End.TheVariants.{At};
 ghost use Rattle.dict_value.specs.Values.{FitsColumn};
-ghost use Rattle.dict_functions.specs.Refusals.{HasValues};
 ghost use Rattle.std.specs.List.{AllZip};
 
-use crate::lines::{LineFault, OfLine, value_fault};
+use crate::lines::{LineFault, value_fault};
 use dict_schema::{Definition, RangeOf, column_at};
 use dict_value::{
     Address, AttrType, ColType, Field, Fields, ListOf, NoMemory, Value, read_address, read_text,
@@ -201,25 +200,5 @@ pub(crate) fn read_key(
         LookupBy::Range(_) => read_ranged(alloc, d, types, fields),
         LookupBy::Address => only_address(fields),
         LookupBy::Nothing => Err(LineFault::Unread),
-    }
-}
-
-/// What makes a list of values of each line, one of each type.
-#[derive(Clone, Copy)]
-pub(crate) struct ValuesOf<'a> {
-    pub types: &'a [AttrType],
-}
-
-impl OfLine for ValuesOf<'_> {
-    type Made = ListOf<Value>;
-
-    ghost takes = { λ of fields. ⊤ };
-
-    ghost reads = { λ of fields. HasValues of.types.now fields };
-
-    ghost makes = { λ of fields values. ReadsAs of.types.now fields values × AllZip FitsColumn of.types.now values };
-
-    fn make(&self, alloc: Global, fields: &Fields) -> Result<ListOf<Value>, LineFault> {
-        read_values(alloc, self.types, fields.as_slice())
     }
 }

@@ -1,4 +1,4 @@
-// Replies from a version of each layout, and from fetched rows and values.
+// Replies from a version of each layout.
 ghost use Rattle.std.specs.Prelude.{◌≡◌, ◌≤◌, length, IfOk};
 ghost use Rattle.dict_functions.specs.Asking.{IsLookup};
 

@@ -69,27 +69,10 @@ IsFromText q c key text =
     (column : ℕ) × NamesParent c.definition column
     × AnswersVerb q.verb q.level (numbers_of c.rows) (parents_of c.definition column c.rows) (key ∷ []) text
 
--- the line of the question whether a row came
-abbrev pub IsHasLine : FetchedRow → Line → Type 0
-IsHasLine fetched line = (line.moment ≡ fetched.moment) × (line.text ≡ flag (is_present fetched.row))
-
--- the text of the attribute that is asked for in a fetched row, or of what stands in for it
-abbrev pub HasFetchedText : Definition → Asked → MaybeRow → List ℕ → Type 0
-HasFetchedText d q row text =
-    (place : ℕ) × (column : Column) × IsAttributeNamed d q.attribute place column
-    × IsFetchedText d q place column row text
-
-abbrev pub IsAttributeLine : Definition → Asked → FetchedRow → Line → Type 0
-IsAttributeLine d q fetched line = (line.moment ≡ fetched.moment) × HasFetchedText d q fetched.row line.text
-
--- what the first unread line means for keys, and for arguments
+-- what the first unread line means
 abbrev pub key_fault : LinesFault → ReplyFault
 key_fault (several.Unread line) = fault.BadKey line
 key_fault several.NoMemory = fault.NoMemory
-
-abbrev pub argument_fault : LinesFault → ReplyFault
-argument_fault (several.Unread line) = fault.BadArgument line
-argument_fault several.NoMemory = fault.NoMemory
 
 -- what an unread default means
 abbrev pub default_fault : LineFault → ReplyFault

@@ -1,7 +1,0 @@
-use Rattle.std.proofs.Common.{take}
-use Rattle.std.specs.List.{AllZip}
-use Rattle.dict_functions.specs.steps.Lines.{IsHasLine}
-use Rattle.dict_functions.proofs.keyed.has_lines.Given as goal
-
-abbrev pub invariant-loop-fetched : goal.invariant-loop-fetched
-invariant-loop-fetched l = AllZip IsHasLine (take l.fetched-index l.rows) l.lines
