@@ -1,36 +1,20 @@
 -- The answer to a lookup from one version.
-use Rattle.std.specs.Prelude.{◌≡◌, ◌-◌, ◌∷◌, [], ℕ, if◌then◌else◌, List, All, Bool, true, false, Option, Some, None, slice_get}
-use Rattle.std.specs.Prelude.{MatchOption, length}
+use Rattle.std.specs.Prelude.{◌≡◌, ℕ, List}
+use Rattle.std.specs.Prelude.{MatchOption}
 use Rattle.std.specs.List.{AllZip}
-use Rattle.cache_layout.specs.Fetching.{CanBeSent, FitsReply, IsKeyOf, key_types}
-use Rattle.dict_schema.specs.declared.definition.Column.{Column}
-use Rattle.dict_schema.specs.declared.definition.Definition.{Definition}
-use Rattle.dict_schema.specs.declared.definition.FunctionDef.{FunctionDef}
-use Rattle.dict_value.specs.Values.{FitsColumn}
-use Rattle.dict_value.specs.declared.value.FetchedRow.{FetchedRow}
 use Rattle.dict_value.specs.declared.value.Field.{Field}
-use Rattle.dict_value.specs.declared.value.MaybeRow.{MaybeRow}
-use Rattle.dict_value.specs.declared.value.MaybeRow.TheVariants.{Absent, Present}
-use Rattle.dict_value.specs.declared.value.Value.{Value}
 use Rattle.dict_version.specs.Contents.{Contents}
-use Rattle.dict_version.specs.Keys.{attribute_place}
-use Rattle.row_text.specs.Written.{printed}
 use Rattle.version_slot.specs.Views.{Entered}
 use Rattle.wire_text.specs.declared.reply.Line.{Line}
-use Rattle.wire_text.specs.declared.reply.Mark.{Mark}
 use Rattle.wire_text.specs.declared.reply.Mark.TheVariants as mark
 use Rattle.wire_text.specs.declared.reply.Reply.{Reply}
 use Rattle.wire_text.specs.declared.reply.Reply.TheVariants.{Refused}
 use Rattle.wire_text.specs.declared.reply.ReplyFault.{ReplyFault}
 use Rattle.wire_text.specs.declared.reply.ReplyFault.TheVariants as fault
 use Rattle.wire_text.specs.declared.request.Asked.{Asked}
-use Rattle.wire_text.specs.declared.request.Verb.{Verb}
-use Rattle.wire_text.specs.declared.request.Verb.TheVariants as verb
-use Rattle.dict_functions.specs.Asking.{IsAttributeNamed}
-use Rattle.dict_functions.specs.Keys.{ReadsAs}
-use Rattle.dict_functions.specs.Refusals.{IsCallRefusal, IsFitting, IsKeyedRefusal, IsRefusal, argument_types}
+use Rattle.dict_functions.specs.Refusals.{IsFitting, IsRefusal}
 use Rattle.dict_functions.specs.Replies.{IsReplyOf}
-use Rattle.dict_functions.specs.Values.{IsText, StandsIn, flag}
+use Rattle.dict_functions.specs.Values.{IsText}
 
 -- the line of a lookup in a version; it tells no moment
 pub record IsLoadedLine (c : Contents) (q : Asked) (fields : List Field) (line : Line) : Type 0 where

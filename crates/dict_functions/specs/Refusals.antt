@@ -1,15 +1,9 @@
 -- Why a lookup is refused: the first reason in this order.
-use Rattle.std.specs.Prelude.{◌≡◌, ◌≢◌, ◌<◌, ◌∷◌, ◌++◌, ℕ, List, All, Bool, true, false, Ok, IsTrue, length, map}
-use Rattle.cache_layout.specs.Fetching.{key_types}
-use Rattle.row_text.specs.Written.{written_row}
-use Rattle.cache_layout.specs.declared.fetch.TheConstants.{MOST_KEY_BYTES}
+use Rattle.std.specs.Prelude.{◌≡◌, ◌≢◌, ℕ, List, Bool, true, false, Ok, IsTrue}
 use Rattle.dict_schema.specs.declared.definition.Column.{Column}
 use Rattle.dict_schema.specs.declared.definition.Definition.{Definition}
-use Rattle.dict_schema.specs.declared.definition.FunctionDef.{FunctionDef}
 use Rattle.dict_value.specs.Values.{reading}
-use Rattle.dict_value.specs.declared.value.AttrType.{AttrType}
 use Rattle.dict_value.specs.declared.value.Field.{Field}
-use Rattle.dict_value.specs.declared.value.Format.{Format}
 use Rattle.dict_value.specs.declared.value.Value.{Value}
 use Rattle.dict_version.specs.Keys.{NamesParent}
 use Rattle.dict_version.specs.declared.key.Key.{Key}
@@ -18,7 +12,7 @@ use Rattle.wire_text.specs.declared.reply.ReplyFault.TheVariants as fault
 use Rattle.wire_text.specs.declared.request.Asked.{Asked}
 use Rattle.wire_text.specs.declared.request.Verb.TheVariants as verb
 use Rattle.dict_functions.specs.Asking.{IsAttributeNamed, asks_attribute, asks_hierarchy}
-use Rattle.dict_functions.specs.Keys.{IsFirstWithout, ReadsAs, ReadsKey, ReadsNumbers}
+use Rattle.dict_functions.specs.Keys.{IsFirstWithout, ReadsKey, ReadsNumbers}
 
 -- a hierarchy is asked for, and there is none
 abbrev pub LacksHierarchy : Definition → Asked → Type 0

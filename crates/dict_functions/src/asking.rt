@@ -84,13 +84,6 @@ pub(crate) fn stand_in(alloc: Global, q: &Asked, column: &Column) -> Result<Valu
     }
 }
 
-/// Whether a verb asks for an attribute.
-pub(crate) fn asks_attribute(verb: Verb) -> bool
-    ensures { result ≡ asks_attribute verb }
-{
-    matches!(verb, Verb::Get | Verb::GetOrDefault | Verb::GetOrNull)
-}
-
 /// Why a lookup is refused whose default can't be had.
 fn default_fault(fault: LineFault) -> ReplyFault
     ensures { result ≡ default_fault fault }

@@ -6,8 +6,6 @@ use Rattle.dict_schema.specs.declared.definition.Definition.{Definition}
 use Rattle.dict_value.specs.declared.letters.TheConstants.{COMMA}
 use Rattle.dict_value.specs.declared.value.BadValue.{BadValue}
 use Rattle.dict_value.specs.declared.value.BadValue.TheVariants as bad
-use Rattle.dict_value.specs.declared.value.FetchedRow.{FetchedRow}
-use Rattle.dict_value.specs.declared.value.MaybeRow.{MaybeRow}
 use Rattle.dict_value.specs.declared.value.Value.{Value}
 use Rattle.dict_version.specs.Contents.{Contents}
 use Rattle.dict_version.specs.Keys.{NamesParent, numbers_of, parents_of}
@@ -18,10 +16,10 @@ use Rattle.wire_text.specs.declared.reply.ReplyFault.TheVariants as fault
 use Rattle.wire_text.specs.declared.request.Asked.{Asked}
 use Rattle.wire_text.specs.declared.request.Verb.{Verb}
 use Rattle.wire_text.specs.declared.request.Verb.TheVariants as verb
-use Rattle.dict_functions.specs.Answers.{IsFetchedText, IsLoadedLine, is_present}
+use Rattle.dict_functions.specs.Answers.{IsLoadedLine}
 use Rattle.dict_functions.specs.Asking.{IsAttributeNamed}
 use Rattle.dict_functions.specs.Refusals.{IsFitting, IsRefusal}
-use Rattle.dict_functions.specs.Values.{AnswersVerb, IsCellText, StandsIn, flag}
+use Rattle.dict_functions.specs.Values.{AnswersVerb, IsCellText, StandsIn}
 use Rattle.dict_functions.specs.declared.asking.Attribute.{Attribute}
 use Rattle.dict_functions.specs.declared.lines.LineFault.{LineFault}
 use Rattle.dict_functions.specs.declared.lines.LineFault.TheVariants as one

@@ -3,7 +3,6 @@ use Rattle.std.proofs.lemmas.Option.{slice_get_within}
 use Rattle.dict_schema.specs.declared.definition.Column.{Column}
 use Rattle.row_text.specs.Written.{printed}
 use Rattle.wire_text.specs.declared.reply.ReplyFault.{ReplyFault}
-use Rattle.dict_functions.specs.Asking.{IsAttributeNamed}
 use Rattle.dict_functions.specs.Refusals.{IsUnfitting}
 use Rattle.dict_functions.proofs.SideBySide.{item-here}
 use Rattle.dict_functions.proofs.Unfitting.{bad-default, named-at, stand-in-fits, unknown-attribute}

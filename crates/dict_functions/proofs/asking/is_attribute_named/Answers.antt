@@ -1,4 +1,4 @@
-use Rattle.std.proofs.Common.{◌≡◌, ◌∙◌, Some, false, true, ap, arith, slice_get, sym}
+use Rattle.std.proofs.Common.{◌≡◌, ◌∙◌, true, ap, sym}
 use Rattle.std.proofs.lemmas.Option.{same_Some}
 use Rattle.dict_schema.specs.declared.definition.Column.{Column}
 use Rattle.dict_functions.proofs.SideBySide.{item-here}

@@ -1,4 +1,4 @@
-use Rattle.std.proofs.Common.{◌≡◌, ◌++◌, ◌∙◌, ap, refl, get_or}
+use Rattle.std.proofs.Common.{◌++◌, ◌∙◌, ap, refl, get_or}
 use Rattle.dict_functions.specs.steps.Lines.{listed_at}
 use Rattle.dict_functions.proofs.Listed.{listed-more}
 use Rattle.dict_functions.proofs.hierarchies.push_listed.Goals as goal

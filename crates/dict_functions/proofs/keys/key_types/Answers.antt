@@ -1,4 +1,4 @@
-use Rattle.std.proofs.Common.{◌≡◌, ◌++◌, ◌∷◌, [], ◌∙◌, ◌<◌, length, get_or, arith, rules}
+use Rattle.std.proofs.Common.{◌≡◌, ◌∙◌, ◌<◌, length, get_or, rules}
 use Rattle.dict_functions.proofs.KeyTypes.{type-more, type-same}
 use Rattle.dict_functions.proofs.keys.key_types.Goals as goal
 use Rattle.dict_functions.proofs.keys.key_types.Goals.{in-Some+in_ok-push, in_default}

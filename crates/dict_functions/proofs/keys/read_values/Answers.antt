@@ -1,6 +1,6 @@
-use Rattle.std.proofs.Common.{◌≡◌, ◌<◌, ◌+◌, ◌++◌, ◌∷◌, [], ◌∙◌, Err, Ok, length, get_or, take, arith, refl, rules, subst, sym}
+use Rattle.std.proofs.Common.{◌≡◌, ◌<◌, ◌+◌, ◌++◌, ◌∷◌, [], length, take, arith, refl, rules, subst, sym}
 use Rattle.std.specs.List.{AllZip}
-use Rattle.dict_value.specs.Values.{FitsColumn, reading}
+use Rattle.dict_value.specs.Values.{FitsColumn}
 use Rattle.dict_functions.specs.Keys.{ReadsAs}
 use Rattle.dict_functions.specs.declared.lines.LineFault.TheVariants.{Unread}
 use Rattle.dict_functions.specs.steps.Lines.{value_fault}

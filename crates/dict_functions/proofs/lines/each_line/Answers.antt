@@ -1,9 +1,8 @@
-use Rattle.std.proofs.Common.{◌≡◌, ◌<◌, ◌+◌, ◌++◌, ◌∷◌, [], Err, List, length, get_or, take, arith, rules, subst, sym}
+use Rattle.std.proofs.Common.{◌≡◌, ◌<◌, ◌+◌, ◌++◌, ◌∷◌, [], List, length, get_or, take, arith, rules, subst, sym}
 use Rattle.std.specs.List.{AllZip}
 use Rattle.std.proofs.lemmas.List.Elements.{All-more}
 use Rattle.dict_value.specs.declared.value.Field.{Field}
 use Rattle.dict_functions.specs.Keys.{IsFirstWithout}
-use Rattle.dict_functions.specs.declared.lines.LineFault.TheVariants as one
 use Rattle.dict_functions.proofs.SideBySide.{first-without, zip-more}
 use Rattle.dict_functions.proofs.lines.each_line.Goals as goal
 
