@@ -1,13 +1,11 @@
 -- How many lines a lookup has, and how many fields a line by which a hierarchy is asked.
-use Rattle.std.proofs.Common.{◌≡◌, ◌≢◌, ◌<◌, ◌≤◌, ◌+◌, ◌^◌, ◌∷◌, ◌∙◌, [], ℕ, List, Bool, true, false, length, refl, sym, ap, subst, arith, IsTrue}
+use Rattle.std.proofs.Common.{◌≡◌, ◌≢◌, ◌<◌, ◌≤◌, ◌+◌, ◌^◌, ◌∷◌, [], ℕ, List, false, length, refl, arith, IsTrue}
 use Rattle.std.specs.Prelude.{All, ⊤}
-use Rattle.std.specs.List.{AllZip}
 use Rattle.std.proofs.lemmas.List.Elements.{All-cons, All-nil}
 use Rattle.std.proofs.lemmas.Slice.Zip.{AllZip-long}
 use Rattle.dict_value.specs.declared.value.Field.{Field}
 use Rattle.row_text.specs.TabRow.{IsTabRow}
-use Rattle.wire_text.specs.Requests.{AsksFor, IsLookup as IsLookupHead, IsRequest, asked_above}
-use Rattle.wire_text.specs.declared.lines.TheConstants.{MOST_BLOCK_LINES}
+use Rattle.wire_text.specs.Requests.{AsksFor, IsLookup as IsLookupHead, asked_above}
 use Rattle.wire_text.specs.declared.request.Asked.{Asked}
 use Rattle.wire_text.specs.declared.request.Request.{Request}
 use Rattle.wire_text.specs.declared.request.Request.TheVariants as request

@@ -1,5 +1,5 @@
 -- Texts that a lookup of an attribute gives.
-use Rattle.std.proofs.Common.{◌≡◌, ◌<◌, ◌∙◌, ℕ, List, Option, Some, None, length, refl, sym, subst, arith}
+use Rattle.std.proofs.Common.{◌≡◌, ◌<◌, ◌∙◌, ℕ, List, Option, Some, None, length, sym, subst}
 use Rattle.std.proofs.lemmas.Option.{slice_get_within}
 use Rattle.dict_schema.specs.Shapes.{shape_column, shape_of}
 use Rattle.dict_schema.specs.Sound.{IsSound}
@@ -16,9 +16,9 @@ use Rattle.wire_text.specs.declared.request.Asked.{Asked}
 use Rattle.wire_text.specs.declared.request.Verb.{Verb}
 use Rattle.wire_text.specs.declared.request.Verb.TheVariants as verb
 use Rattle.std.proofs.Common.{IsTrue}
-use Rattle.dict_functions.specs.Asking.{IsAttributeNamed, asks_attribute}
+use Rattle.dict_functions.specs.Asking.{asks_attribute}
 use Rattle.dict_functions.specs.Keys.{ReadsKey}
-use Rattle.dict_functions.specs.Values.{IsAttributeText, IsCellText, IsHasText, IsText, IsTextBy}
+use Rattle.dict_functions.specs.Values.{IsAttributeText, IsHasText, IsText, IsTextBy}
 use Rattle.dict_functions.specs.declared.asking.Attribute.{Attribute}
 use Rattle.dict_functions.specs.steps.Lines.{HasCellText, IsAttributeOf}
 

@@ -1,5 +1,5 @@
 -- A value of which it can't be that it doesn't fit its column fits it.
-use Rattle.std.proofs.Common.{◌≡◌, ◌<◌, ◌^◌, ℕ, ℤ, List, Bool, true, false, IsTrue, refl, inl, inr, arith, min}
+use Rattle.std.proofs.Common.{◌<◌, ◌^◌, ℕ, Bool, true, false, IsTrue, refl, inl, inr, arith, min}
 use Rattle.std.specs.Prelude.{unsigned_abs}
 use Rattle.std.proofs.lemmas.Bool.{cases_lt}
 use Rattle.dict_value.specs.Numbers.{is_within}

@@ -1,5 +1,5 @@
 -- Texts that the hierarchy of a version gives.
-use Rattle.std.proofs.Common.{◌≡◌, ◌≢◌, ◌<◌, ◌∷◌, [], ℕ, List, Bool, true, false, inl, inr, refl, sym, subst, IsTrue}
+use Rattle.std.proofs.Common.{◌≡◌, ◌≢◌, ◌∷◌, [], ℕ, List, Bool, true, false, inl, inr, refl, sym, subst, IsTrue}
 use Rattle.std.specs.Prelude.{◌↔◌}
 use Rattle.dict_value.specs.declared.value.Field.{Field}
 use Rattle.dict_version.specs.Contents.{Contents}

@@ -1,5 +1,5 @@
 -- Keys that lines write, or don't, by what a layout looks up.
-use Rattle.std.proofs.Common.{◌≡◌, ◌<◌, ◌≤◌, ◌+◌, ◌-◌, ◌++◌, ◌∷◌, ◌∙◌, [], ℕ, ℤ, zero, suc, List, get_or, length, length-append, take, refl, sym, ap, subst, arith}
+use Rattle.std.proofs.Common.{◌≡◌, ◌<◌, ◌-◌, ◌++◌, ◌∷◌, ◌∙◌, [], ℕ, ℤ, zero, suc, List, get_or, length, length-append, take, refl, sym, ap, subst, arith}
 use Rattle.cache_layout.specs.Fetching.{key_types}
 use Rattle.dict_schema.specs.declared.definition.Definition.{Definition}
 use Rattle.dict_value.specs.declared.value.Field.{Field}

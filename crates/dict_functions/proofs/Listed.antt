@@ -1,5 +1,5 @@
 -- A list of numbers, as it is written so far.
-use Rattle.std.proofs.Common.{◌≡◌, ◌<◌, ◌+◌, ◌++◌, ◌∷◌, ◌∙◌, [], ℕ, zero, suc, List, get_or, length, take, refl, sym, ap, subst, arith, append_assoc, map, decimal}
+use Rattle.std.proofs.Common.{◌≡◌, ◌<◌, ◌+◌, ◌++◌, ◌∷◌, ◌∙◌, [], ℕ, zero, suc, List, get_or, length, take, sym, ap, arith, append_assoc, map, decimal}
 use Rattle.std.specs.List.{join_with_byte}
 use Rattle.dict_value.specs.declared.letters.TheConstants.{COMMA}
 use Rattle.dict_functions.specs.steps.Lines.{listed_at}

@@ -1,11 +1,10 @@
 -- What a lookup that fits asks for, and why another is refused.
-use Rattle.std.proofs.Common.{◌≡◌, ◌≢◌, ◌<◌, ◌⊎◌, ◌∙◌, ℕ, List, Some, Ok, Err, Result, Bool, true, false, if◌then◌else◌, inl, inr, refl, sym, ap, subst, slice_get, IsTrue}
+use Rattle.std.proofs.Common.{◌≡◌, ◌≢◌, ◌⊎◌, ◌∙◌, ℕ, List, Some, Ok, Err, Result, Bool, true, false, if◌then◌else◌, inl, inr, refl, sym, ap, subst, slice_get, IsTrue}
 use Rattle.std.proofs.lemmas.Option.{same_Some}
 use Rattle.dict_schema.specs.Sound.{IsSound}
 use Rattle.dict_schema.specs.declared.definition.Column.{Column}
 use Rattle.dict_schema.specs.declared.definition.Definition.{Definition}
 use Rattle.dict_value.proofs.ReadTypes.{read-typed}
-use Rattle.dict_value.specs.Memory.{UnlessNoMemory}
 use Rattle.dict_value.specs.Values.{FitsColumn, HasType, reading}
 use Rattle.dict_value.specs.declared.value.AttrType.{AttrType}
 use Rattle.dict_value.specs.declared.value.BadValue.{BadValue}
@@ -15,14 +14,13 @@ use Rattle.dict_value.specs.declared.value.Field.TheVariants as field
 use Rattle.dict_value.specs.declared.value.Value.{Value}
 use Rattle.dict_value.specs.declared.value.Value.TheVariants.{U, I, S, Day, Second, Id, V4, V6, Dec, Null}
 use Rattle.dict_version.specs.Keys.{NamesParent}
-use Rattle.wire_text.specs.declared.reply.ReplyFault.{ReplyFault}
 use Rattle.wire_text.specs.declared.reply.ReplyFault.TheVariants as fault
 use Rattle.wire_text.specs.declared.request.Asked.{Asked}
 use Rattle.wire_text.specs.declared.request.Verb.{Verb}
 use Rattle.wire_text.specs.declared.request.Verb.TheVariants as verb
 use Rattle.dict_functions.specs.Asking.{IsAttributeNamed, asks_attribute, asks_hierarchy}
 use Rattle.dict_functions.specs.Keys.{IsFirstWithout}
-use Rattle.dict_functions.specs.Refusals.{HasBadDefault, HasKey, IsFitting, IsRefusal, IsUnfitting, LacksAttribute, LacksHierarchy}
+use Rattle.dict_functions.specs.Refusals.{HasBadDefault, HasKey, IsFitting, IsRefusal, IsUnfitting}
 use Rattle.dict_functions.specs.Values.{StandsIn}
 use Rattle.dict_functions.specs.declared.lines.LineFault.{LineFault}
 use Rattle.dict_functions.specs.declared.lines.LineFault.TheVariants as one
