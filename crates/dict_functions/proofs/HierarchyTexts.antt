@@ -100,5 +100,5 @@ module _ (c : Contents) (q : Asked) where
       parent = of.1;
       reads = reads;
       is = subst (λ v. AnswersVerb v q.level (numbers_of c.rows) (parents_of c.definition of.0 c.rows) (key ∷ ancestor ∷ []) text) (sym asks)
-      (subst (λ t. AnswersVerb verb.IsIn q.level (numbers_of c.rows) (parents_of c.definition of.0 c.rows) (key ∷ ancestor ∷ []) t) (sym e) (is-in key ancestor b is));
+          (subst (λ t. AnswersVerb verb.IsIn q.level (numbers_of c.rows) (parents_of c.definition of.0 c.rows) (key ∷ ancestor ∷ []) t) (sym e) (is-in key ancestor b is));
     }

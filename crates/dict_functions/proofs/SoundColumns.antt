@@ -69,8 +69,16 @@ module _ (d : Definition) (sound : IsSound d) where
       let at = place-clear (λ (p : ℕ). Where (fault.DuplicateName (p + 1)) (IsDuplicate d p)) 0 (length d.columns) k (slice_get_within d.columns k b second) numbered in
       let same : 0 + k ≡ k = omega arith in
       let at_k : IsClear (Where (fault.DuplicateName (k + 1)) (IsDuplicate d k)) = subst (λ (p : ℕ). IsClear (Where (fault.DuplicateName (p + 1)) (IsDuplicate d p))) same at in
-      at_k (fault.DuplicateName (k + 1)) (refl, inl (j, name, low, mapped-at (λ column. column.name) d.columns j a first ∙ ap Some is,
-      mapped-at (λ column. column.name) d.columns k b second ∙ ap Some other))
+      at_k (fault.DuplicateName (k + 1)) (
+        refl,
+        inl (
+          j,
+          name,
+          low,
+          mapped-at (λ column. column.name) d.columns j a first ∙ ap Some is,
+          mapped-at (λ column. column.name) d.columns k b second ∙ ap Some other,
+        ),
+      )
 
   -- a name is one attribute's
   pub named-once : (name : List ℕ) (j k : ℕ) (a b : Column) → IsAttributeNamed d name j a → IsAttributeNamed d name k b → a ≡ b

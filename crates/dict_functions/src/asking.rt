@@ -105,7 +105,11 @@ pub(crate) fn key_fault(fault: LinesFault) -> ReplyFault
 }
 
 /// The attribute that is asked for, or why there is none: an unknown name, or a default that is none of its values.
-pub(crate) fn attribute_of(alloc: Global, d: &Definition, q: &Asked) -> Result<Attribute, ReplyFault>
+pub(crate) fn attribute_of(
+    alloc: Global,
+    d: &Definition,
+    q: &Asked,
+) -> Result<Attribute, ReplyFault>
     requires verb { IsTrue (asks_attribute q.now.verb) }
     requires sound { IsSound d.now }
     ensures { UnlessNoMemory (Err fault.NoMemory) result

@@ -67,7 +67,12 @@ impl OfLine for AttributeOf<'_> {
     ghost makes = { λ of fields line. (line.moment ≡ 0) × IsAttributeText of.version.now of.q.now fields line.text };
 
     fn make(&self, alloc: Global, fields: &Fields) -> Result<Line, LineFault> {
-        let key = match read_key(alloc, self.version.definition(), self.types, fields.as_slice()) {
+        let key = match read_key(
+            alloc,
+            self.version.definition(),
+            self.types,
+            fields.as_slice(),
+        ) {
             Ok(key) => key,
             Err(fault) => return Err(fault),
         };
@@ -95,7 +100,12 @@ impl OfLine for HasOf<'_> {
     ghost makes = { λ of fields line. (line.moment ≡ 0) × IsHasText of.version.now fields line.text };
 
     fn make(&self, alloc: Global, fields: &Fields) -> Result<Line, LineFault> {
-        let key = match read_key(alloc, self.version.definition(), self.types, fields.as_slice()) {
+        let key = match read_key(
+            alloc,
+            self.version.definition(),
+            self.types,
+            fields.as_slice(),
+        ) {
             Ok(key) => key,
             Err(fault) => return Err(fault),
         };

@@ -55,8 +55,14 @@ static FLAT: Case = Case {
         (b"many\t0\tdictGet\td\tx\n", b"OK\tv1\t0\n"),
         (b"many\t0\tdictGet\td\tq\n", b"ERR\t3\n"),
         (b"many\t2\tdictHas\td\n1\n3\n", b"OK\tv1\t2\n1\n0\n"),
-        (b"many\t2\tdictGetOrDefault\td\tn\t3\n1\n3\n", b"OK\tv1\t2\n5\n3\n"),
-        (b"many\t2\tdictGetOrNull\td\tn\n1\n3\n", b"OK\tv1\t2\n5\n\\N\n"),
+        (
+            b"many\t2\tdictGetOrDefault\td\tn\t3\n1\n3\n",
+            b"OK\tv1\t2\n5\n3\n",
+        ),
+        (
+            b"many\t2\tdictGetOrNull\td\tn\n1\n3\n",
+            b"OK\tv1\t2\n5\n\\N\n",
+        ),
     ],
 };
 
@@ -268,10 +274,22 @@ fn worked_rows(rt: HostRuntime) -> Result<(), Fail> {
     assert_eq!(rt; first_wrong(alloc, &FLAT)?, None, "FLAT");
     assert_eq!(rt; first_wrong(alloc, &HASHED)?, None, "HASHED");
     assert_eq!(rt; first_wrong(alloc, &COMPLEX)?, None, "COMPLEX_KEY_HASHED");
-    assert_eq!(rt; first_wrong(alloc, &RANGES)?, None, "RANGE_HASHED, the least start");
-    assert_eq!(rt; first_wrong(alloc, &LATE_RANGES)?, None, "RANGE_HASHED, the greatest start");
+    assert_eq!(rt;
+        first_wrong(alloc, &RANGES)?,
+        None,
+        "RANGE_HASHED, the least start"
+    );
+    assert_eq!(rt;
+        first_wrong(alloc, &LATE_RANGES)?,
+        None,
+        "RANGE_HASHED, the greatest start"
+    );
     assert_eq!(rt; first_wrong(alloc, &ADDRESSES)?, None, "IP_TRIE");
-    assert_eq!(rt; first_wrong(alloc, &SIXTH)?, None, "IP_TRIE of the other family");
+    assert_eq!(rt;
+        first_wrong(alloc, &SIXTH)?,
+        None,
+        "IP_TRIE of the other family"
+    );
     assert_eq!(rt; first_wrong(alloc, &PARENTS)?, None, "a hierarchy");
     assert_eq!(rt; first_wrong(alloc, &TYPES)?, None, "types");
     Ok(())

@@ -35,7 +35,7 @@ value_fault _ = one.Unread
 abbrev pub Answered : Contents → Asked → Result (List Line) ReplyFault → Type 0
 Answered c q result =
     MatchResult result (λ lines. IsFitting c.definition q × AllZip (IsLoadedLine c q) q.lines lines)
-        (IsRefusal c.definition q)
+    (IsRefusal c.definition q)
 
 -- the text of the attribute for a row that was found, or for none
 abbrev pub HasCellText : Contents → Asked → Attribute → Option ℕ → List ℕ → Type 0

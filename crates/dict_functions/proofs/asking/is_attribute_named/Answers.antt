@@ -5,11 +5,14 @@ use Rattle.dict_functions.proofs.SideBySide.{item-here}
 use Rattle.dict_functions.proofs.asking.is_attribute_named.Goals as goal
 
 pub returns-clause-yes : goal.returns-clause-yes
-returns-clause-yes c = λ e. (c.index-as_slice-place.result, record {
-  here = item-here c.as_slice.result.now c.args.d.now.columns c.args.place c.index-as_slice-place.result c.as_slice.ensures c.requires c.index-as_slice-place.is;
-  named = ap (λ (x : Column). x.name) c.index-as_slice-place.is ∙ c.is_same.ensures.0 e;
-  attribute = sym c.is_attribute.ensures ∙ c.if-not-is_attribute.false;
-})
+returns-clause-yes c = λ e. (
+  c.index-as_slice-place.result,
+  record {
+    here = item-here c.as_slice.result.now c.args.d.now.columns c.args.place c.index-as_slice-place.result c.as_slice.ensures c.requires c.index-as_slice-place.is;
+    named = ap (λ (x : Column). x.name) c.index-as_slice-place.is ∙ c.is_same.ensures.0 e;
+    attribute = sym c.is_attribute.ensures ∙ c.if-not-is_attribute.false;
+  },
+)
 
 pub returns-clause-no : goal.returns-clause-no
 returns-clause-no c = λ e column named.

@@ -37,8 +37,8 @@ loop-place-preserved c =
     let grew : c.push.new.self ≡ c.loop-place.values ++ v ∷ [] = search rules in
     record {
       read = subst (ReadsAs (take (i + 1) types) (take (i + 1) fields)) (sym grew)
-      (reads-more types fields c.loop-place.values i _ c.index-fields-place.result v low also c.index-fields-place.is
-      c.loop-place.invariant.read (sym (c.in-Ok-read_value.ensures.exact (λ none. cc))));
+          (reads-more types fields c.loop-place.values i _ c.index-fields-place.result v low also c.index-fields-place.is
+          c.loop-place.invariant.read (sym (c.in-Ok-read_value.ensures.exact (λ none. cc))));
       fit = subst (AllZip FitsColumn (take (i + 1) types)) (sym grew)
-      (zip-more FitsColumn types c.loop-place.values i _ _ v low refl c.loop-place.invariant.fit c.in-Ok-read_value.ensures.fits);
+          (zip-more FitsColumn types c.loop-place.values i _ _ v low refl c.loop-place.invariant.fit c.in-Ok-read_value.ensures.fits);
     }

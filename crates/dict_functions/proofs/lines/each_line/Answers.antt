@@ -31,5 +31,5 @@ loop-place-preserved g c =
     record {
       read = All-more P lines i fields low c.loop-place.invariant.read (subst P at c.in-Ok-make.ensures.read);
       made = subst (AllZip R (take (i + 1) lines)) (sym grew)
-      (zip-more R lines c.loop-place.made i fields fields c.in-Ok-make.one low at c.loop-place.invariant.made c.in-Ok-make.ensures.made);
+          (zip-more R lines c.loop-place.made i fields fields c.in-Ok-make.one low at c.loop-place.invariant.made c.in-Ok-make.ensures.made);
     }

@@ -29,11 +29,12 @@ pub returns-in-Ok-each_line : goal.returns-in-Ok-each_line
 returns-in-Ok-each_line c = λ other.
     let v = c.args.version.now in
     let q = c.args.q.now in
-    let of = subst (λ (d : Definition). IsAttributeOf d q c.in-Ok.attribute) c.definition-d.ensures.is (c.in-Ok.ensures (λ e. cc)) in
-    (attribute-fits v.definition q c.definition-d.ensures.sound c.requires.verb c.in-Ok.attribute.place of.column of.value of.named of.stands,
-    zip-weaker (λ (fields : List Field) (line : Line). (line.moment ≡ 0) × IsAttributeText v q fields line.text) (IsLoadedLine v q)
-    (λ fields line made. record { moment = made.0; text = attribute-is v q fields line.text c.requires.verb made.1 })
-    q.lines c.in-Ok-each_line.lines c.in-Ok-each_line.ensures.made)
+    let of = subst (λ (d : Definition). IsAttributeOf d q c.in-Ok.attribute) c.definition-d.ensures.is (c.in-Ok.ensures (λ e. cc)) in (
+      attribute-fits v.definition q c.definition-d.ensures.sound c.requires.verb c.in-Ok.attribute.place of.column of.value of.named of.stands,
+      zip-weaker (λ (fields : List Field) (line : Line). (line.moment ≡ 0) × IsAttributeText v q fields line.text) (IsLoadedLine v q)
+          (λ fields line made. record { moment = made.0; text = attribute-is v q fields line.text c.requires.verb made.1 })
+          q.lines c.in-Ok-each_line.lines c.in-Ok-each_line.ensures.made,
+    )
 
 pub returns : goal.returns
 returns c = λ other.

@@ -15,11 +15,12 @@ use Rattle.dict_functions.proofs.loaded.has_lines.Goals as goal
 pub returns-in-Ok-each_line : goal.returns-in-Ok-each_line
 returns-in-Ok-each_line c = λ other.
     let v = c.args.version.now in
-    let q = c.args.q.now in
-    (has-fits v.definition q c.requires.verb,
-    zip-weaker (λ (fields : List Field) (line : Line). (line.moment ≡ 0) × IsHasText v fields line.text) (IsLoadedLine v q)
-    (λ fields line made. record { moment = made.0; text = has-is v q fields line.text c.requires.verb made.1 })
-    q.lines c.in-Ok-each_line.lines c.in-Ok-each_line.ensures.made)
+    let q = c.args.q.now in (
+      has-fits v.definition q c.requires.verb,
+      zip-weaker (λ (fields : List Field) (line : Line). (line.moment ≡ 0) × IsHasText v fields line.text) (IsLoadedLine v q)
+          (λ fields line made. record { moment = made.0; text = has-is v q fields line.text c.requires.verb made.1 })
+          q.lines c.in-Ok-each_line.lines c.in-Ok-each_line.ensures.made,
+    )
 
 pub returns : goal.returns
 returns c = λ other.
