@@ -176,7 +176,9 @@ static TYPES: Case = Case {
         (b"dictGet\td\tp\t1\n", b"OK\tv1\t-1.5\n"),
         (b"dictGet\td\tg\t1\n", b"OK\tv1\t2001:db8::1\n"),
         (b"dictGet\td\tt\t2\n", b"OK\tv1\t1970-01-01\n"),
-        (b"dictGetOrDefault\td\tp\t7.255\t2\n", b"ERR\t10\t0\n"),
+        (b"dictGetOrDefault\td\tp\t7.255\t2\n", b"OK\tv1\t7.25\n"),
+        (b"dictGetOrDefault\td\tp\t7.2.5\t2\n", b"ERR\t10\t0\n"),
+        (b"dictGetOrDefault\td\tp\t1000\t2\n", b"ERR\t10\t0\n"),
         (b"dictGetOrDefault\td\tp\t7.5\t2\n", b"OK\tv1\t7.5\n"),
     ],
 };
