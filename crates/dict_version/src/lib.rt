@@ -21,4 +21,5 @@ pub use columns::attribute_place;
 pub use fault::LayoutFault;
 pub use key::Key;
 pub use lookup::{LookupBy, lookup_by};
+pub use print::print_cell;
 pub use version::Version;

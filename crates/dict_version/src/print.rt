@@ -22,7 +22,7 @@ fn print_plain(ty: &AttrType, value: &Value, out: &mut Bytes) -> Result<(), NoMe
 
 /// Appends the escaped text of a cell, and `\N` for NULL; after `NoMemory` nothing has changed.
 #[tactic(auto, unfolding(dict_value::specs::Values::value_text))]
-pub(crate) fn print_cell(ty: &AttrType, cell: &Cell<'_>, out: &mut Bytes) -> Result<(), NoMemory>
+pub fn print_cell(ty: &AttrType, cell: &Cell<'_>, out: &mut Bytes) -> Result<(), NoMemory>
     requires { FitsColumn ty.now (meaning cell.now) }
     ensures ok { OnOk result (out.new ≡ out.old ++ printed ty.now.base (meaning cell.now)) }
     ensures err { OnErr result (out.new ≡ out.old) }

@@ -1,0 +1,10 @@
+mod AskedLines
+mod Cells
+mod Fitting
+mod HierarchyTexts
+mod KeyTypes
+mod KeysRead
+mod Listed
+mod SideBySide
+mod SoundColumns
+mod Unfitting

@@ -1,0 +1,2 @@
+-- Relations of private calls.
+pub mod Lines

@@ -1,0 +1,78 @@
+-- What is made of the lines of a lookup, and what their faults mean.
+use Rattle.std.specs.Prelude.{◌≡◌, ◌∷◌, [], ℕ, zero, suc, List, Option, Result, MatchResult, decimal}
+use Rattle.std.specs.List.{AllZip}
+use Rattle.dict_schema.specs.declared.definition.Column.{Column}
+use Rattle.dict_schema.specs.declared.definition.Definition.{Definition}
+use Rattle.dict_value.specs.declared.letters.TheConstants.{COMMA}
+use Rattle.dict_value.specs.declared.value.BadValue.{BadValue}
+use Rattle.dict_value.specs.declared.value.BadValue.TheVariants as bad
+use Rattle.dict_value.specs.declared.value.Value.{Value}
+use Rattle.dict_version.specs.Contents.{Contents}
+use Rattle.dict_version.specs.Keys.{NamesParent, numbers_of, parents_of}
+use Rattle.row_text.specs.Written.{printed}
+use Rattle.wire_text.specs.declared.reply.Line.{Line}
+use Rattle.wire_text.specs.declared.reply.ReplyFault.{ReplyFault}
+use Rattle.wire_text.specs.declared.reply.ReplyFault.TheVariants as fault
+use Rattle.wire_text.specs.declared.request.Asked.{Asked}
+use Rattle.wire_text.specs.declared.request.Verb.{Verb}
+use Rattle.wire_text.specs.declared.request.Verb.TheVariants as verb
+use Rattle.dict_functions.specs.Answers.{IsLoadedLine}
+use Rattle.dict_functions.specs.Asking.{IsAttributeNamed}
+use Rattle.dict_functions.specs.Refusals.{IsFitting, IsRefusal}
+use Rattle.dict_functions.specs.Values.{AnswersVerb, IsCellText, StandsIn}
+use Rattle.dict_functions.specs.declared.asking.Attribute.{Attribute}
+use Rattle.dict_functions.specs.declared.lines.LineFault.{LineFault}
+use Rattle.dict_functions.specs.declared.lines.LineFault.TheVariants as one
+use Rattle.dict_functions.specs.declared.lines.LinesFault.{LinesFault}
+use Rattle.dict_functions.specs.declared.lines.LinesFault.TheVariants as several
+
+-- what a field without a value means
+abbrev pub value_fault : BadValue → LineFault
+value_fault bad.NoMemory = one.NoMemory
+value_fault _ = one.Unread
+
+-- the lines of a lookup in a version, or why it is refused
+abbrev pub Answered : Contents → Asked → Result (List Line) ReplyFault → Type 0
+Answered c q result =
+    MatchResult result (λ lines. IsFitting c.definition q × AllZip (IsLoadedLine c q) q.lines lines)
+    (IsRefusal c.definition q)
+
+-- the text of the attribute for a row that was found, or for none
+abbrev pub HasCellText : Contents → Asked → Attribute → Option ℕ → List ℕ → Type 0
+HasCellText c q attribute found text =
+    (column : Column) × IsAttributeNamed c.definition q.attribute attribute.place column
+    × IsCellText c q attribute.place column found text
+
+-- the attribute that is asked for, and the text of what stands in for it
+pub record IsAttributeOf (d : Definition) (q : Asked) (attribute : Attribute) : Type 0 where
+  pub column : Column
+  pub value : Value
+  pub named : IsAttributeNamed d q.attribute attribute.place column
+  pub stands : StandsIn q.verb column q.fallback value
+  pub missing : attribute.missing ≡ printed column.ty.base value
+
+-- how many numbers a line has by which a hierarchy is asked
+abbrev pub key_count : Verb → ℕ
+key_count verb.IsIn = 2
+key_count _ = 1
+
+-- a number at a place of a list, behind a comma where others stand before it
+abbrev pub listed_at : ℕ → ℕ → List ℕ
+listed_at zero number = decimal number
+listed_at (suc before) number = COMMA ∷ decimal number
+
+-- the text that the hierarchy of a version gives for one key alone
+abbrev pub IsFromText : Asked → Contents → ℕ → List ℕ → Type 0
+IsFromText q c key text =
+    (column : ℕ) × NamesParent c.definition column
+    × AnswersVerb q.verb q.level (numbers_of c.rows) (parents_of c.definition column c.rows) (key ∷ []) text
+
+-- what the first unread line means
+abbrev pub key_fault : LinesFault → ReplyFault
+key_fault (several.Unread line) = fault.BadKey line
+key_fault several.NoMemory = fault.NoMemory
+
+-- what an unread default means
+abbrev pub default_fault : LineFault → ReplyFault
+default_fault one.Unread = fault.BadArgument 0
+default_fault one.NoMemory = fault.NoMemory

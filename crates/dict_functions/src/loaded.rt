@@ -1,0 +1,207 @@
+// Answers from one version.
+ghost use Rattle.std.specs.Prelude.{◌≡◌, ◌<◌, ◌^◌, Err, IfOk, IfSome, IsTrue, false, length};
+ghost use Rattle.cache_layout.specs.Fetching.{key_types};
+ghost use Rattle.dict_schema.specs.Sound.{IsSound};
+ghost use Rattle.dict_value.specs.Memory.{UnlessNoMemory};
+ghost use Rattle.dict_version.specs.Keys.{attribute_place};
+ghost use Rattle.dict_functions.specs.Answers.{AnswersSeen};
+ghost use Rattle.dict_functions.specs.Asking.{IsLookup, asks_attribute};
+ghost use Rattle.dict_functions.specs.Refusals.{HasKey};
+ghost use Rattle.dict_functions.specs.Values.{IsAttributeText, IsHasText};
+ghost use Rattle.wire_text.specs.declared.reply.Reply.TheVariants.{Refused};
+ghost use Rattle.wire_text.specs.declared.reply.ReplyFault.TheVariants as fault;
+ghost use Rattle.wire_text.specs.declared.request.Verb.TheVariants as verb;
+ghost use Rattle.dict_functions.specs.steps.Lines.{Answered, HasCellText, IsAttributeOf};
+
+use crate::asking::{Attribute, asks_hierarchy, attribute_of, key_fault};
+use crate::hierarchies::hierarchy_lines;
+use crate::keys::{key_types, read_key};
+use crate::lines::{LineFault, OfLine, each_line};
+use crate::replies::{flag, reply_of};
+use dict_value::{AttrType, Bytes, Fields, ListOf, NoMemory, Uncounted};
+use dict_version::{Version, attribute_place};
+use std::alloc::Global;
+use version_slot::Seen;
+use wire_text::{Asked, Line, Mark, Reply, ReplyFault, Verb};
+
+/// What a lookup of an attribute makes of each line.
+#[derive(Clone, Copy)]
+struct AttributeOf<'a> {
+    version: &'a Version<Uncounted>,
+    q: &'a Asked,
+    attribute: &'a Attribute,
+    /// The attribute's place in a row.
+    cell: u32,
+    types: &'a [AttrType],
+}
+
+impl AttributeOf<'_> {
+    /// The text of the attribute in a row that was found, or of what stands in for it.
+    fn text_of(&self, alloc: Global, found: Option<u32>) -> Result<Bytes, NoMemory>
+        requires row { IfSome found (λ row. row < length self.now.version.now.rows) }
+        requires of { IsAttributeOf self.now.version.now.definition self.now.q.now self.now.attribute.now }
+        requires cell { self.now.cell ≡ attribute_place self.now.version.now.definition self.now.attribute.now.place }
+        requires sound { IsSound self.now.version.now.definition }
+        ensures { IfOk result (HasCellText self.now.version.now self.now.q.now self.now.attribute.now found) }
+    {
+        let Some(row) = found else {
+            return Bytes::copy_of(alloc, self.attribute.missing.as_slice());
+        };
+        let mut text = Bytes::new(alloc);
+        match self.version.write_cell(row, self.cell, &mut text) {
+            Ok(()) => Ok(text),
+            Err(_) => Err(NoMemory),
+        }
+    }
+}
+
+impl OfLine for AttributeOf<'_> {
+    type Made = Line;
+
+    ghost takes = { λ of fields. IsAttributeOf of.version.now.definition of.q.now of.attribute.now
+        × (of.cell ≡ attribute_place of.version.now.definition of.attribute.now.place)
+        × (of.types.now ≡ key_types of.version.now.definition) };
+
+    ghost reads = { λ of fields. HasKey of.version.now.definition false fields };
+
+    ghost makes = { λ of fields line. (line.moment ≡ 0) × IsAttributeText of.version.now of.q.now fields line.text };
+
+    fn make(&self, alloc: Global, fields: &Fields) -> Result<Line, LineFault> {
+        let key = match read_key(
+            alloc,
+            self.version.definition(),
+            self.types,
+            fields.as_slice(),
+        ) {
+            Ok(key) => key,
+            Err(fault) => return Err(fault),
+        };
+        match self.text_of(alloc, self.version.find(&key, &mut Uncounted)) {
+            Ok(text) => Ok(Line { moment: 0, text }),
+            Err(_) => Err(LineFault::NoMemory),
+        }
+    }
+}
+
+/// What the question whether a row has a key makes of each line.
+#[derive(Clone, Copy)]
+struct HasOf<'a> {
+    version: &'a Version<Uncounted>,
+    types: &'a [AttrType],
+}
+
+impl OfLine for HasOf<'_> {
+    type Made = Line;
+
+    ghost takes = { λ of fields. of.types.now ≡ key_types of.version.now.definition };
+
+    ghost reads = { λ of fields. HasKey of.version.now.definition false fields };
+
+    ghost makes = { λ of fields line. (line.moment ≡ 0) × IsHasText of.version.now fields line.text };
+
+    fn make(&self, alloc: Global, fields: &Fields) -> Result<Line, LineFault> {
+        let key = match read_key(
+            alloc,
+            self.version.definition(),
+            self.types,
+            fields.as_slice(),
+        ) {
+            Ok(key) => key,
+            Err(fault) => return Err(fault),
+        };
+        let found = self.version.find(&key, &mut Uncounted);
+        match Bytes::copy_of(alloc, flag(found.is_some())) {
+            Ok(text) => Ok(Line { moment: 0, text }),
+            Err(_) => Err(LineFault::NoMemory),
+        }
+    }
+}
+
+/// The lines of a lookup of an attribute.
+fn attribute_lines(
+    alloc: Global,
+    version: &Version<Uncounted>,
+    q: &Asked,
+) -> Result<ListOf<Line>, ReplyFault>
+    requires verb { IsTrue (asks_attribute q.now.verb) }
+    requires few { length q.now.lines < 2 ^ 32 }
+    ensures { UnlessNoMemory (Err fault.NoMemory) result (Answered version.now q.now result) }
+{
+    let d = version.definition();
+    let attribute = match attribute_of(alloc, d, q) {
+        Ok(attribute) => attribute,
+        Err(fault) => return Err(fault),
+    };
+    let Ok(types) = key_types(alloc, d) else {
+        return Err(ReplyFault::NoMemory);
+    };
+    let of = AttributeOf {
+        version,
+        q,
+        attribute: &attribute,
+        cell: attribute_place(d, attribute.place),
+        types: types.as_slice(),
+    };
+    match each_line(alloc, &of, &q.lines) {
+        Ok(lines) => Ok(lines),
+        Err(fault) => Err(key_fault(fault)),
+    }
+}
+
+/// The lines of the question whether rows have keys.
+fn has_lines(
+    alloc: Global,
+    version: &Version<Uncounted>,
+    q: &Asked,
+) -> Result<ListOf<Line>, ReplyFault>
+    requires verb { q.now.verb ≡ verb.Has }
+    requires few { length q.now.lines < 2 ^ 32 }
+    ensures { UnlessNoMemory (Err fault.NoMemory) result (Answered version.now q.now result) }
+{
+    let Ok(types) = key_types(alloc, version.definition()) else {
+        return Err(ReplyFault::NoMemory);
+    };
+    let of = HasOf {
+        version,
+        types: types.as_slice(),
+    };
+    match each_line(alloc, &of, &q.lines) {
+        Ok(lines) => Ok(lines),
+        Err(fault) => Err(key_fault(fault)),
+    }
+}
+
+/// The lines of a lookup, or the first reason why it is refused.
+fn lines_of(
+    alloc: Global,
+    version: &Version<Uncounted>,
+    q: &Asked,
+) -> Result<ListOf<Line>, ReplyFault>
+    requires { IsLookup q.now }
+    ensures { UnlessNoMemory (Err fault.NoMemory) result (Answered version.now q.now result) }
+{
+    if asks_hierarchy(q.verb) {
+        return hierarchy_lines(alloc, version, q);
+    }
+    match q.verb {
+        Verb::Has => has_lines(alloc, version, q),
+        _ => attribute_lines(alloc, version, q),
+    }
+}
+
+/// The answer to a lookup from one version that was entered, and from nothing else. Before the first version it is
+/// refused; then, where there is no such hierarchy, attribute or default, and then for the first line that writes no
+/// key, in this order.
+pub fn answer_loaded(alloc: Global, seen: &Seen<Version<Uncounted>>, q: &Asked) -> Reply
+    requires { IsLookup q.now }
+    // Only want of memory may stand in place of the answer.
+    ensures { UnlessNoMemory (Refused fault.NoMemory) result (AnswersSeen seen.now q.now result) }
+{
+    let Some(version) = seen.version() else {
+        return Reply::Refused(ReplyFault::NotLoaded);
+    };
+    match lines_of(alloc, version, q) {
+        Ok(lines) => reply_of(q.block, Mark::Version(seen.number()), lines),
+        Err(fault) => Reply::Refused(fault),
+    }
+}
