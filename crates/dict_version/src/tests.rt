@@ -16,8 +16,8 @@ use dict_schema::{
     is_keyed,
 };
 use dict_value::{
-    AttrType, Bytes, ColType, Format, KeyList, ListOf, MOST_ROWS, NoMemory, Tally, Value,
-    default_of, fits_column, same_value,
+    AttrType, Bytes, ColType, Format, KeyList, ListOf, MOST_ROWS, NoMemory, Tally, default_of,
+    fits_column,
 };
 use packed_rows::{Cell, Rows, RowsBuilder, value_of};
 use std::alloc::Global;
@@ -251,8 +251,6 @@ const PAIRS: &[(ColType, bool)] = &[
     (ColType::Str, false),
 ];
 
-const PARENTS: &[(ColType, bool)] = &[(ColType::UInt64, false), (ColType::UInt64, false)];
-
 const FLAT: Sketch = Sketch {
     types: TWO,
     parent: None,
@@ -295,14 +293,6 @@ const COMPLEX: Sketch = Sketch {
     parent: None,
     keys: &[0, 1],
     layout: Layout::ComplexHashed,
-    range: RangeOf::None,
-};
-
-const HIERARCHY: Sketch = Sketch {
-    types: PARENTS,
-    parent: Some(1),
-    keys: &[0],
-    layout: Layout::Hashed,
     range: RangeOf::None,
 };
 
@@ -587,55 +577,5 @@ fn a_version_is_its_parts(rt: HostRuntime) -> Result<(), Fail> {
     assert_eq!(rt; version.stored(), 34);
     assert_eq!(rt; version.definition().name.as_slice(), b"d".as_slice());
     assert!(rt; version.hier().is_none());
-    Ok(())
-}
-
-#[test]
-fn rows_and_values_are_copied(rt: HostRuntime) -> Result<(), Fail> {
-    let alloc = rt.alloc();
-    let Ok(version) = version_of(alloc, &FIRST.sketch, FIRST.rows)? else {
-        return Err("no version".into());
-    };
-    if version.row_count() != 2 || version.column_count() != 2 {
-        return Err("not the rows".into());
-    }
-    let row = version.row(alloc, 1)?;
-    let wanted = values_of(alloc, &[Cell::U(2), Cell::S(b"b")])?;
-    assert_eq!(rt; row.len(), wanted.len());
-    for (value, wanted) in row.as_slice().iter().zip(wanted.as_slice()) {
-        assert!(rt; same_value(value, wanted));
-    }
-    let value = version.value(alloc, 0, 1)?;
-    assert!(rt; same_value(&value, &Value::S(Bytes::copy_of(alloc, b"a")?)));
-    Ok(())
-}
-
-static TREE: Table = Table {
-    sketch: HIERARCHY,
-    rows: &[
-        &[Cell::U(1), Cell::U(0)],
-        &[Cell::U(2), Cell::U(1)],
-        &[Cell::U(3), Cell::U(1)],
-        &[Cell::U(4), Cell::U(2)],
-        &[Cell::U(5), Cell::U(6)],
-        &[Cell::U(6), Cell::U(5)],
-    ],
-};
-
-#[test]
-fn keys_name_their_parents(rt: HostRuntime) -> Result<(), Fail> {
-    let alloc = rt.alloc();
-    let Ok(version) = version_of(alloc, &TREE.sketch, TREE.rows)? else {
-        return Err("no version".into());
-    };
-    let Some(hier) = version.hier() else {
-        return Err("no hierarchy".into());
-    };
-    assert_eq!(rt; hier.chain(alloc, 4)?.as_slice(), *&[4, 2, 1].as_slice());
-    assert_eq!(rt; hier.chain(alloc, 5)?.as_slice(), *&[5, 6].as_slice());
-    assert_eq!(rt; hier.children(alloc, 1)?.as_slice(), *&[2, 3].as_slice());
-    assert_eq!(rt; hier.descendants(alloc, 1, 2)?.as_slice(), *&[4].as_slice());
-    assert!(rt; hier.is_in(4, 1));
-    assert!(rt; !hier.is_in(1, 4));
     Ok(())
 }
