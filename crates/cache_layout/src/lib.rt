@@ -6,4 +6,4 @@
 
 pub mod fetch;
 
-pub use fetch::{Fetch, MOST_KEYS, MOST_KEY_BYTES};
+pub use fetch::{Fetch, MOST_KEY_BYTES, MOST_KEYS};
