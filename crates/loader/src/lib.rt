@@ -5,8 +5,10 @@
 //! call takes memory.
 #![tactic(auto)]
 
+mod answers;
 mod schedule;
 #[cfg(test)]
 mod schedule_tests;
 
+pub use answers::{LoadEnd, StatusRow};
 pub use schedule::Schedule;
