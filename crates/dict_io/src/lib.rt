@@ -6,11 +6,13 @@
 //! read gives the next of them and a write appends.
 #![tactic(auto)]
 
+pub mod link;
 pub mod memory;
 pub mod outside;
 pub mod real;
 pub mod shelf;
 
+pub use link::{Both, Gate, Link, MemoryLink, OpenGate, write_link};
 pub use memory::{MemoryClock, MemorySink, MemorySource};
 pub use outside::{
     Clock, Failed, Got, LAST_MOMENT, Put, Shelf, ShelfFault, Sink, Source, write_all,
