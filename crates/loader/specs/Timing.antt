@@ -22,6 +22,10 @@ abbrev pub never_loaded : Lifetime → ℕ → ℕ → Timing
 never_loaded lifetime seed number =
     record { lifetime = lifetime; words = generator_of seed number; deadline = None; failures = 0 }
 
+-- the same with another lifetime
+abbrev pub with_lifetime : Timing → Lifetime → Timing
+with_lifetime t lifetime = record t { lifetime = lifetime }
+
 -- LIFETIME(0): what was published stays
 abbrev pub stays : Lifetime → Bool
 stays lifetime = (lifetime.min == 0) && (lifetime.max == 0)

@@ -2,6 +2,7 @@
 ghost use Rattle.std.specs.Prelude.{◌≡◌, ◌≤◌, ◌^◌, ◌*◌, ◌+◌, ◌<◌, ◌↔◌, IsTrue, min};
 ghost use Rattle.dict_io.specs.declared.outside.TheConstants.{LAST_MOMENT};
 ghost use Rattle.loader.specs.Timing.{IsDue, after_failure, after_ok, drawn_life, never_loaded, stays, wait_after};
+ghost use Rattle.loader.specs.Timing.{with_lifetime};
 
 use dict_schema::Lifetime;
 use rand_core::utils::NextWord;
@@ -73,6 +74,14 @@ impl Schedule {
             Some(deadline) => now >= deadline,
             None => false,
         }
+    }
+
+    /// Takes another lifetime, and leaves all else.
+    pub fn set(&mut self, lifetime: Lifetime)
+        requires { lifetime.min ≤ lifetime.max }
+        ensures { self.new ≡ with_lifetime self.old lifetime }
+    {
+        self.lifetime = lifetime;
     }
 
     /// Counts a load that was published at a moment. One word of the item's stream picks the next deadline, unless
