@@ -399,3 +399,33 @@ pub tabled : (line : List ℕ) (text : List ℕ) (w : Word) (fields rest : List 
     → fields ≡ Text text ∷ rest → word_in text ≡ Some w → AsksBehind w line rest rows r → AsksFor line fields rows r
 tabled line text w fields rest rows r e read behind =
     moved line _ _ rows _ _ (e ∙ ap (λ (t : List ℕ). Text t ∷ rest) (word_is text w read)) refl (behind_told line w rest rows r behind)
+
+-- the lookup of a block that is read is the table's
+head_worded : (text : List ℕ) (fields : List Field) (l : Lookup) (o : Option Word) → word_in text ≡ o
+    → option_and_then (λ (w : Word). lookup_in w fields) o ≡ Some l → l.keys ≡ []
+    → IsLookup (Text text ∷ fields) l.verb l.name l.attribute l.fallback
+head_worded text fields l None e f none = let nothing : None ≡ Some l = f in cc
+head_worded text fields l (Some w) e f none =
+    let at = looked w fields l f in
+    let same : Text text ∷ fields ≡ at.head =
+    ap (λ (t : List ℕ). Text t ∷ fields) (word_is text w e) ∙ at.whole ∙ ap (λ (k : List Field). at.head ++ k) none ∙ append-nil at.head in
+    subst (λ (h : List Field). IsLookup h l.verb l.name l.attribute l.fallback) (sym same) at.lookup
+
+pub head_read : (head : List Field) (l : Lookup) → head_in head ≡ Some l → l.keys ≡ []
+    → IsLookup head l.verb l.name l.attribute l.fallback
+head_read [] l e none = let nothing : None ≡ Some l = e in cc
+head_read (Null ∷ fields) l e none = let nothing : None ≡ Some l = e in cc
+head_read (Text text ∷ fields) l e none = head_worded text fields l (word_in text) refl e none
+
+-- a lookup of the table is read, without keys
+pub head_found : {head : List Field} {verb : Verb} {name attribute : List ℕ} {fallback : Field}
+    → IsLookup head verb name attribute fallback → head_in head ≡ Some (lookup_of verb name attribute fallback [])
+head_found (IsLookup.get name attribute) = refl
+head_found (IsLookup.get_or_default name attribute fallback) = refl
+head_found (IsLookup.get_or_null name attribute) = refl
+head_found (IsLookup.has name) = refl
+head_found (IsLookup.call name) = refl
+
+-- the word of a block is spelled so
+pub many_is : (text : List ℕ) → word_in text ≡ Some word.Many → text ≡ codes "many"
+many_is text e = word_is text word.Many e

@@ -1,12 +1,12 @@
 -- An input has one list of requests, and can't have none.
-use Rattle.std.proofs.Common.{◌≡◌, ◌≢◌, ◌⊎◌, ◌<◌, ◌≤◌, ◌+◌, ◌++◌, ◌∙◌, ℕ, zero, suc, List, [], ◌∷◌, Bool, true, false, length}
+use Rattle.std.proofs.Common.{◌≡◌, ◌⊎◌, ◌≤◌, ◌++◌, ◌∙◌, ℕ, zero, suc, List, [], ◌∷◌, Bool, length}
 use Rattle.std.proofs.Common.{refl, sym, ap, subst, inl, inr, arith}
-use Rattle.dict_value.proofs.Cuts.{cut-once, digits-lack, lacks-not}
+use Rattle.dict_value.proofs.Cuts.{cut-once, lacks-not}
 use Rattle.dict_value.specs.Split.{Lacks}
-use Rattle.dict_value.specs.declared.letters.TheConstants.{LINE_FEED, TAB}
+use Rattle.dict_value.specs.declared.letters.TheConstants.{LINE_FEED}
 use Rattle.wire_text.proofs.Answering.{request_once}
 use Rattle.wire_text.proofs.BlockLines.{block_once}
-use Rattle.wire_text.specs.Requests.{IsBlockLine, IsRequest, LinesAfter}
+use Rattle.wire_text.specs.Requests.{IsRequest, LinesAfter}
 use Rattle.wire_text.specs.RequestTexts.{FirstLine, FirstLines, FirstRequest, Heard, HeardOf, Hears, IsBlockHead, IsTooLarge}
 use Rattle.wire_text.specs.declared.request.Request.{Request}
 use Rattle.wire_text.specs.declared.request.Request.TheVariants as request
@@ -86,14 +86,14 @@ heard_once first more count behind rest h k (HeardOf.cut a b) (HeardOf.cut d e) 
 
 -- the parts of a text at its first request: its first line, the lines that follow, how many should, the text of these and
 -- of what is behind, and the latter alone
-abbrev Parts : Type 0
+abbrev pub Parts : Type 0
 Parts = List ℕ × (List (List ℕ) × (ℕ × (List ℕ × List ℕ)))
 
-abbrev parts_of : List ℕ → List (List ℕ) → ℕ → List ℕ → List ℕ → Parts
+abbrev pub parts_of : List ℕ → List (List ℕ) → ℕ → List ℕ → List ℕ → Parts
 parts_of first more count behind rest = (first, (more, (count, (behind, rest))))
 
 -- one request stands first
-parts_once : (closed : Bool) (text f g p q : List ℕ) (a b : List (List ℕ))
+pub parts_once : (closed : Bool) (text f g p q : List ℕ) (a b : List (List ℕ))
     (r : FirstRequest closed text f a p) (s : FirstRequest closed text g b q)
     → parts_of f a r.count r.behind p ≡ parts_of g b s.count s.behind q
 parts_once closed text f g p q a b r s =
@@ -108,7 +108,7 @@ abbrev PartsHeard : Parts → Heard → Type 0
 PartsHeard p h = HeardOf p.0 p.1.0 p.1.1.0 p.1.1.1.0 p.1.1.1.1 h
 
 -- what is heard of the request that stands first
-first_once : (closed : Bool) (text f g p q : List ℕ) (a b : List (List ℕ)) (h k : Heard)
+pub first_once : (closed : Bool) (text f g p q : List ℕ) (a b : List (List ℕ)) (h k : Heard)
     (r : FirstRequest closed text f a p) (s : FirstRequest closed text g b q)
     → HeardOf f a r.count r.behind p h → HeardOf g b s.count s.behind q k → h ≡ k
 first_once closed text f g p q a b h k r s x y =

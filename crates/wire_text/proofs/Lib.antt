@@ -1,6 +1,8 @@
 pub mod Answering
 pub mod Asking
 pub mod BlockLines
-mod Hearing
+pub mod Hearing
 pub mod RepliesApart
 pub mod RowReadings
+mod BlockHeads
+pub mod Quits

@@ -1,5 +1,5 @@
 -- What is heard of an input: the requests that stand in it one behind another, up to the first `quit`.
-use Rattle.std.specs.Prelude.{◌≡◌, ◌≢◌, ◌⊎◌, ◌<◌, ◌≤◌, ◌+◌, ◌++◌, ℕ, suc, List, [], ◌∷◌, Bool, true, false, length, codes}
+use Rattle.std.specs.Prelude.{◌≡◌, ◌≢◌, ◌⊎◌, ◌<◌, ◌≤◌, ◌+◌, ◌++◌, ℕ, suc, List, [], ◌∷◌, Bool, true, length, codes}
 use Rattle.dict_value.specs.Split.{Lacks}
 use Rattle.dict_value.specs.declared.letters.TheConstants.{LINE_FEED}
 use Rattle.dict_value.specs.declared.value.Field.{Field}

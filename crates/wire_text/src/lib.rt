@@ -11,6 +11,7 @@
 
 mod causes;
 mod decimals;
+mod heads;
 pub mod laws;
 mod lines;
 mod pieces;
@@ -20,6 +21,7 @@ pub mod request;
 mod words;
 mod writing;
 
+pub use heads::{heads_block, is_quit};
 pub use laws::{one_block_of_a_text, one_list_of_requests, one_request, one_value_of_a_text};
 pub use lines::{MOST_BLOCK_BYTES, MOST_BLOCK_LINES, MOST_LINE_BYTES, MOST_REQUESTS, lines_after};
 pub use reading::read_request;

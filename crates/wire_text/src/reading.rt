@@ -18,16 +18,16 @@ use std::alloc::Global;
 
 /// What a lookup asks for, before its keys are judged.
 #[derive(Drop)]
-struct Lookup {
+pub(crate) struct Lookup {
     verb: Verb,
     name: Bytes,
     attribute: Bytes,
     fallback: Field,
-    keys: Fields,
+    pub(crate) keys: Fields,
 }
 
 /// Takes the first field away, where it is a text.
-fn take_text(fields: &mut Fields) -> Option<Bytes>
+pub(crate) fn take_text(fields: &mut Fields) -> Option<Bytes>
     ensures { MatchOption result (text_first fields.old ≡ None)
         (λ text. text_first fields.old ≡ Some (text, fields.new)) }
 {
@@ -271,7 +271,7 @@ fn request_fault(fault: LineFault) -> RequestFault
 }
 
 /// The fields of a line.
-fn read_row(alloc: Global, line: &[u8]) -> Result<Fields, RequestFault>
+pub(crate) fn read_row(alloc: Global, line: &[u8]) -> Result<Fields, RequestFault>
     requires { length line.now ≤ u32.MAX }
     ensures { RowRead line.now result }
 {
@@ -301,7 +301,7 @@ fn read_rows(alloc: Global, lines: &[Bytes]) -> Result<ListOf<Fields>, RequestFa
 }
 
 /// The lookup of a block, by what stands behind the number of its lines.
-fn read_head(alloc: Global, mut fields: Fields) -> Option<Lookup>
+pub(crate) fn read_head(alloc: Global, mut fields: Fields) -> Option<Lookup>
     ensures { result ≡ head_in fields }
 {
     let text = take_text(&mut fields)?;
