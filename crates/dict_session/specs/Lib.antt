@@ -1,0 +1,4 @@
+-- The definitions that contracts cite.
+pub mod Items
+pub mod Acts
+pub mod Facts
