@@ -37,13 +37,13 @@ length-front (a ∷ xs) zero low = refl
 length-front (a ∷ xs) (suc i) low = ap suc (length-front xs i (omega (arith, low)))
 
 -- the first line that can't be read
-pub first-without : (P : List Field → Type 0) (lines : List (List Field)) (i : ℕ) (fields : List Field) → i < length lines
-    → fields ≡ get_or lines i fields → All P (take i lines) → ¬ (P fields) → IsFirstWithout P lines (i + 1)
-first-without P lines i fields low at earlier without = record {
+pub first-without : {A : Type 0} (P : A → Type 0) (lines : List A) (i : ℕ) (line : A) → i < length lines
+    → line ≡ get_or lines i line → All P (take i lines) → ¬ (P line) → IsFirstWithout P lines (i + 1)
+first-without P lines i line low at earlier without = record {
   before = take i lines;
-  fields = fields;
+  line = line;
   after = drop (suc i) lines;
-  parts = cut-at lines i fields low at;
+  parts = cut-at lines i line low at;
   counted = ap (λ n. n + 1) (sym (length-front lines i low));
   earlier = earlier;
   without = without;

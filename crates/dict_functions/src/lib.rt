@@ -6,10 +6,17 @@
 #![tactic(auto)]
 
 mod asking;
+mod calls;
 mod hierarchies;
+mod keyed;
 mod keys;
 mod lines;
 mod loaded;
 mod replies;
+mod sending;
+#[cfg(test)]
+mod tests;
 
+pub use calls::{answer_function, rows_of};
+pub use keyed::{answer_keyed, keys_of};
 pub use loaded::answer_loaded;
