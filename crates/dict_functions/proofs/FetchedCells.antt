@@ -1,5 +1,5 @@
 -- Where attributes stand in fetched rows, and what fits keyed dictionaries.
-use Rattle.std.proofs.Common.{◌≡◌, ◌≢◌, ◌<◌, ◌+◌, ◌-◌, ◌++◌, ◌∷◌, ◌∙◌, [], ℕ, suc, List, Bool, true, false, Some, IsTrue, length, map, refl, sym, ap, subst, arith, slice_get}
+use Rattle.std.proofs.Common.{◌≡◌, ◌≢◌, ◌<◌, ◌+◌, ◌-◌, ◌++◌, ◌∷◌, ◌∙◌, [], ℕ, suc, List, true, false, Some, IsTrue, length, map, refl, sym, subst, arith, slice_get}
 use Rattle.std.specs.Prelude.{if◌then◌else◌}
 use Rattle.std.specs.List.{AllZip}
 use Rattle.std.proofs.lemmas.Option.{same_Some, slice_get_within}
@@ -18,7 +18,7 @@ use Rattle.dict_value.specs.declared.value.Value.{Value}
 use Rattle.dict_version.proofs.AttributePlaces.{attribute_there}
 use Rattle.dict_version.proofs.RowCells.{HasPairAt, item-at, pair-at}
 use Rattle.dict_version.proofs.SoundParts.{keys_there}
-use Rattle.dict_version.specs.Keys.{NamesParent, attribute_place, end_count, is_numbered}
+use Rattle.dict_version.specs.Keys.{NamesParent, attribute_place, is_numbered}
 use Rattle.dict_functions.proofs.SoundColumns.{keys-some}
 use Rattle.dict_functions.specs.Keyed.{fetched_place}
 

@@ -4,6 +4,7 @@ mod FetchedCells
 mod Fitting
 mod HierarchyTexts
 mod KeyTypes
+mod KeyedTexts
 mod KeysRead
 mod Listed
 mod SentRows

@@ -6,10 +6,19 @@ use Rattle.std.proofs.lemmas.List.Elements.{All-cons, All-nil}
 use Rattle.dict_value.specs.Values.{FitsColumn, value_text}
 use Rattle.dict_value.specs.declared.value.AttrType.{AttrType}
 use Rattle.dict_value.specs.declared.value.ColType.{ColType}
+use Rattle.dict_value.specs.declared.value.Field.{Field}
 use Rattle.dict_value.specs.declared.value.Field.TheVariants as field
+use Rattle.dict_value.specs.declared.value.Format.{Format}
 use Rattle.dict_value.specs.declared.value.Value.{Value}
 use Rattle.dict_value.specs.declared.value.Value.TheVariants.{U, I, S, Day, Second, Id, V4, V6, Dec, Null}
 use Rattle.row_text.specs.Written.{written_field, written_fields}
+use Rattle.wire_text.specs.declared.reply.ReplyFault.{ReplyFault}
+use Rattle.dict_functions.specs.Keys.{IsFirstWithout}
+use Rattle.dict_functions.specs.Sending.{AreUnsent, HasValues}
+use Rattle.dict_functions.specs.declared.lines.LinesFault.{LinesFault}
+use Rattle.dict_functions.specs.declared.lines.LinesFault.TheVariants as several
+use Rattle.dict_functions.specs.declared.sending.RowsFault.TheVariants as rows
+use Rattle.dict_functions.specs.steps.Lines.{rows_fault, unread_rows}
 
 -- a value that isn't NULL is written as its text
 pub written-text : (t : ColType) (v : Value) → v ≢ Null → written_field t v ≡ field.Text (value_text t v)
@@ -60,3 +69,10 @@ zip-second R P to [] [] zip = All-nil P
 zip-second R P to [] (y ∷ ys) zip = absurd zip
 zip-second R P to (x ∷ xs) [] zip = absurd zip
 zip-second R P to (x ∷ xs) (y ∷ ys) zip = All-cons P y ys (to x y zip.0) (zip-second R P to xs ys zip.1)
+
+-- a line that can't be read
+pub unread-refused : (format : Format) (types : List AttrType) (lines : List (List Field)) (f : LinesFault)
+    → ((n : ℕ) → f ≡ several.Unread n → IsFirstWithout (HasValues types) lines n) → unread_rows f ≢ rows.NoMemory
+    → (unread : ℕ → ReplyFault) → AreUnsent format types lines unread (rows_fault unread (unread_rows f))
+unread-refused format types lines (several.Unread n) first other unread = AreUnsent.unread (first n refl)
+unread-refused format types lines several.NoMemory first other unread = absurd (other refl)

@@ -99,11 +99,15 @@ fault-read r reads x is unread exact =
     let memory : value_fault NoMemory ≡ Unread = ap value_fault (sym same) ∙ unread in
     cc)) ∙ is
 
+-- an item of a list is one of the same list
+pub item-same : {A : Type 0} (given xs : List A) (i : ℕ) (x : A) → given ≡ xs → x ≡ get_or given i x → x ≡ get_or xs i x
+item-same given xs i x is at = subst (λ l. x ≡ get_or l i x) is at
+
 -- what stands at a place
 pub item-here : {A : Type 0} (given xs : List A) (i : ℕ) (x : A) → given ≡ xs → i < length xs → x ≡ get_or given i x
     → slice_get xs i ≡ Some x
 item-here given xs i x is low at =
-    slice_get_read xs (length xs) i x refl low (subst (λ l. x ≡ get_or l i x) is at)
+    slice_get_read xs (length xs) i x refl low (item-same given xs i x is at)
 
 -- the number that is the whole of a line
 pub first-number : (fields : List Field) (n : ℕ) (field : Field) → field ≡ get_or fields 0 field

@@ -1,5 +1,5 @@
 -- Calls of functions: the rows of arguments of a request, and the answer from the values that were given for them.
-use Rattle.std.specs.Prelude.{◌≡◌, ℕ, List, Result, Ok, Err, map}
+use Rattle.std.specs.Prelude.{◌≡◌, List, Result, Ok, Err, map}
 use Rattle.std.specs.List.{AllZip}
 use Rattle.dict_schema.specs.declared.definition.FunctionDef.{FunctionDef}
 use Rattle.dict_value.specs.Values.{FitsColumn}

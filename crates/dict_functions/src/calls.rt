@@ -29,10 +29,10 @@ fn argument_types(alloc: Global, f: &FunctionDef) -> Result<ListOf<AttrType>, No
 }
 
 /// Why a call is refused whose lines write no arguments that can be sent.
-fn arguments_fault(fault: RowsFault) -> ReplyFault
-    ensures { result ≡ rows_fault fault.BadArgument fault }
+fn arguments_fault(unsent: RowsFault) -> ReplyFault
+    ensures { result ≡ rows_fault fault.BadArgument unsent }
 {
-    match fault {
+    match unsent {
         RowsFault::Unread(line) => ReplyFault::BadArgument(line),
         RowsFault::TooLong => ReplyFault::TooLarge,
         RowsFault::NoMemory => ReplyFault::NoMemory,

@@ -5,6 +5,7 @@ ghost use Rattle.cache_layout.specs.Fetching.{FitsReply};
 ghost use Rattle.dict_schema.specs.Parts.{is_keyed_layout};
 ghost use Rattle.dict_schema.specs.Sound.{IsSound};
 ghost use Rattle.dict_value.specs.Memory.{UnlessNoMemory};
+ghost use Rattle.dict_value.specs.declared.value.MaybeRow.TheVariants.{Present};
 ghost use Rattle.dict_value.specs.declared.value.Value.{Value as ValueOf};
 ghost use Rattle.dict_functions.specs.Asking.{IsLookup, asks_attribute, asks_hierarchy};
 ghost use Rattle.dict_functions.specs.Keyed.{AnswersKeyed, AreFetched, AreKeys, IsFetchedAttribute, IsKeyedLine};
@@ -22,10 +23,24 @@ use crate::lines::{LineFault, OfLine, each_line};
 use crate::replies::{flag, print_value, reply_of};
 use crate::sending::{RowsFault, rows_from};
 use dict_schema::{Column, Definition};
-use dict_value::{Bytes, Fetched, FetchedRow, KeyList, ListOf, MaybeRow, NoMemory};
+use dict_value::{Bytes, Fetched, FetchedRow, KeyList, ListOf, MaybeRow, NoMemory, Row};
 use dict_version::attribute_place;
 use std::alloc::Global;
 use wire_text::{Asked, Line, Mark, Reply, ReplyFault, Verb};
+
+/// Whether an attribute is asked for that is there, with a default that fits; else why the lookup is refused.
+fn fits_attribute(alloc: Global, d: &Definition, q: &Asked) -> Result<(), ReplyFault>
+    requires verb { IsTrue (asks_attribute q.now.verb) }
+    requires sound { IsSound d.now }
+    ensures { UnlessNoMemory (Err fault.NoMemory) result
+        (MatchResult result (λ _. IsFitting d.now q.now) (IsUnfitting d.now q.now)) }
+{
+    let _attribute = match attribute_of(alloc, d, q) {
+        Ok(attribute) => attribute,
+        Err(fault) => return Err(fault),
+    };
+    Ok(())
+}
 
 /// Whether a lookup fits a dictionary whose rows are fetched by key; else why it is refused.
 fn fits_keyed(alloc: Global, d: &Definition, q: &Asked) -> Result<(), ReplyFault>
@@ -40,18 +55,15 @@ fn fits_keyed(alloc: Global, d: &Definition, q: &Asked) -> Result<(), ReplyFault
     }
     match q.verb {
         Verb::Has => Ok(()),
-        _ => match attribute_of(alloc, d, q) {
-            Ok(_) => Ok(()),
-            Err(fault) => Err(fault),
-        },
+        _ => fits_attribute(alloc, d, q),
     }
 }
 
 /// Why a lookup is refused whose lines write no keys that can be fetched.
-fn keys_fault(fault: RowsFault) -> ReplyFault
-    ensures { result ≡ rows_fault fault.BadKey fault }
+fn keys_fault(unsent: RowsFault) -> ReplyFault
+    ensures { result ≡ rows_fault fault.BadKey unsent }
 {
-    match fault {
+    match unsent {
         RowsFault::Unread(line) => ReplyFault::BadKey(line),
         RowsFault::TooLong => ReplyFault::TooLarge,
         RowsFault::NoMemory => ReplyFault::NoMemory,
@@ -81,14 +93,14 @@ pub fn keys_of(alloc: Global, d: &Definition, q: &Asked) -> Result<ListOf<KeyLis
 }
 
 /// The place in a fetched row of the attribute that is this column.
-fn fetched_place(d: &Definition, column: u32) -> usize
+fn fetched_place(d: &Definition, column: u32) -> u32
     requires sound { IsSound d.now }
     requires within { column < length d.now.columns }
     ensures { result ≡ fetched_place d.now column }
 {
-    let place = attribute_place(d, column) as usize;
+    let place = attribute_place(d, column);
     if d.source.implicit {
-        place - d.keys.len()
+        (place as usize - d.keys.len()) as u32
     } else {
         place
     }
@@ -102,11 +114,28 @@ struct FetchedOf<'a> {
     attribute: &'a Attribute,
     column: &'a Column,
     /// The attribute's place in a fetched row.
-    cell: usize,
+    cell: u32,
 }
 
 impl FetchedOf<'_> {
-    /// The text of the attribute in a row that was fetched, or of what stands in for it.
+    /// The text of the attribute in a row that was fetched.
+    fn cell_text(&self, alloc: Global, row: &Row) -> Result<Bytes, NoMemory>
+        requires of { IsFetchedOf self.now.d.now self.now.q.now self.now.attribute.now self.now.column.now self.now.cell }
+        requires fits { FitsReply self.now.d.now (Present row.now) }
+        ensures { IfOk result (IsFetchedAttribute self.now.d.now self.now.q.now (Present row.now)) }
+    {
+        let mut text = Bytes::new(alloc);
+        match print_value(
+            &self.column.ty,
+            &row.as_slice()[self.cell as usize],
+            &mut text,
+        ) {
+            Ok(()) => Ok(text),
+            Err(_) => Err(NoMemory),
+        }
+    }
+
+    /// The text of the attribute in a row that may have been fetched, or of what stands in for it.
     fn text_of(&self, alloc: Global, row: &MaybeRow) -> Result<Bytes, NoMemory>
         requires of { IsFetchedOf self.now.d.now self.now.q.now self.now.attribute.now self.now.column.now self.now.cell }
         requires fits { FitsReply self.now.d.now row.now }
@@ -114,11 +143,7 @@ impl FetchedOf<'_> {
     {
         match row {
             MaybeRow::Absent => Bytes::copy_of(alloc, self.attribute.missing.as_slice()),
-            MaybeRow::Present(row) => {
-                let mut text = Bytes::new(alloc);
-                print_value(&self.column.ty, &row.as_slice()[self.cell], &mut text)?;
-                Ok(text)
-            }
+            MaybeRow::Present(row) => self.cell_text(alloc, row),
         }
     }
 }

@@ -6,7 +6,7 @@ ghost use Rattle.dict_value.specs.Values.{FitsColumn};
 ghost use Rattle.row_text.specs.Written.{written_field, written_fields, written_row};
 ghost use Rattle.dict_functions.specs.Keys.{ReadsAs};
 ghost use Rattle.dict_functions.specs.Sending.{AreUnsent, HasValues, IsTooLong, WriteRows};
-ghost use Rattle.dict_functions.specs.steps.Lines.{rows_fault};
+ghost use Rattle.dict_functions.specs.steps.Lines.{rows_fault, unread_rows};
 ghost use Rattle.wire_text.specs.declared.reply.ReplyFault.{ReplyFault as ReplyFaultOf};
 
 use crate::keys::read_values;
@@ -45,7 +45,10 @@ impl OfLine for ValuesOf<'_> {
     ghost makes = { λ of fields row. ReadsAs of.types.now fields row × AllZip FitsColumn of.types.now row };
 
     fn make(&self, alloc: Global, fields: &Fields) -> Result<Row, LineFault> {
-        read_values(alloc, self.types, fields.as_slice())
+        match read_values(alloc, self.types, fields.as_slice()) {
+            Ok(values) => Ok(values),
+            Err(fault) => Err(fault),
+        }
     }
 }
 
@@ -54,12 +57,14 @@ fn written_field(alloc: Global, ty: &AttrType, value: &Value) -> Result<Field, N
     requires { FitsColumn ty.now value.now }
     ensures { IfOk result (λ field. field ≡ written_field ty.now.base value.now) }
 {
-    if let Value::Null = value {
-        return Ok(Field::Null);
+    match value {
+        Value::Null => Ok(Field::Null),
+        _ => {
+            let mut text = Bytes::new(alloc);
+            write_value(ty, value, &mut text)?;
+            Ok(Field::Text(text))
+        }
     }
-    let mut text = Bytes::new(alloc);
-    write_value(ty, value, &mut text)?;
-    Ok(Field::Text(text))
 }
 
 /// The fields that values are written as.
@@ -88,9 +93,10 @@ fn write_values(
     ensures err { OnErr result (out.new ≡ out.old) }
 {
     let fields = written_fields(alloc, types, values)?;
+    let row = fields.as_slice();
     match format {
-        Format::Tab => write_row(fields.as_slice(), out),
-        Format::Csv => write_csv_row(alloc, fields.as_slice(), out),
+        Format::Tab => write_row(row, out),
+        Format::Csv => write_csv_row(alloc, row, out),
     }
 }
 
@@ -117,6 +123,16 @@ fn can_be_sent(
     Ok(true)
 }
 
+/// Why lines that aren't all read write no rows.
+fn unread_rows(fault: LinesFault) -> RowsFault
+    ensures { result ≡ unread_rows fault }
+{
+    match fault {
+        LinesFault::Unread(line) => RowsFault::Unread(line),
+        LinesFault::NoMemory => RowsFault::NoMemory,
+    }
+}
+
 /// The rows of values that lines write for a program.
 pub(crate) fn rows_from(
     alloc: Global,
@@ -132,12 +148,11 @@ pub(crate) fn rows_from(
 {
     let rows = match each_line(alloc, &ValuesOf { types }, lines) {
         Ok(rows) => rows,
-        Err(LinesFault::Unread(line)) => return Err(RowsFault::Unread(line)),
-        Err(LinesFault::NoMemory) => return Err(RowsFault::NoMemory),
+        Err(fault) => return Err(unread_rows(fault)),
     };
     match can_be_sent(alloc, format, types, rows.as_slice()) {
         Ok(true) => Ok(rows),
         Ok(false) => Err(RowsFault::TooLong),
-        Err(NoMemory) => Err(RowsFault::NoMemory),
+        Err(_) => Err(RowsFault::NoMemory),
     }
 }

@@ -83,6 +83,11 @@ abbrev pub key_fault : LinesFault → ReplyFault
 key_fault (several.Unread line) = fault.BadKey line
 key_fault several.NoMemory = fault.NoMemory
 
+-- what an unread line means for the rows
+abbrev pub unread_rows : LinesFault → RowsFault
+unread_rows (several.Unread line) = rows.Unread line
+unread_rows several.NoMemory = rows.NoMemory
+
 -- what it means that no rows can be sent
 abbrev pub rows_fault : (ℕ → ReplyFault) → RowsFault → ReplyFault
 rows_fault unread (rows.Unread line) = unread line
