@@ -1,10 +1,13 @@
 mod AskedLines
 mod Cells
+mod FetchedCells
 mod Fitting
 mod HierarchyTexts
 mod KeyTypes
+mod KeyedTexts
 mod KeysRead
 mod Listed
+mod SentRows
 mod SideBySide
 mod SoundColumns
 mod Unfitting

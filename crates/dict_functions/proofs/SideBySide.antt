@@ -37,13 +37,13 @@ length-front (a ∷ xs) zero low = refl
 length-front (a ∷ xs) (suc i) low = ap suc (length-front xs i (omega (arith, low)))
 
 -- the first line that can't be read
-pub first-without : (P : List Field → Type 0) (lines : List (List Field)) (i : ℕ) (fields : List Field) → i < length lines
-    → fields ≡ get_or lines i fields → All P (take i lines) → ¬ (P fields) → IsFirstWithout P lines (i + 1)
-first-without P lines i fields low at earlier without = record {
+pub first-without : {A : Type 0} (P : A → Type 0) (lines : List A) (i : ℕ) (line : A) → i < length lines
+    → line ≡ get_or lines i line → All P (take i lines) → ¬ (P line) → IsFirstWithout P lines (i + 1)
+first-without P lines i line low at earlier without = record {
   before = take i lines;
-  fields = fields;
+  line = line;
   after = drop (suc i) lines;
-  parts = cut-at lines i fields low at;
+  parts = cut-at lines i line low at;
   counted = ap (λ n. n + 1) (sym (length-front lines i low));
   earlier = earlier;
   without = without;
@@ -99,11 +99,15 @@ fault-read r reads x is unread exact =
     let memory : value_fault NoMemory ≡ Unread = ap value_fault (sym same) ∙ unread in
     cc)) ∙ is
 
+-- an item of a list is one of the same list
+pub item-same : {A : Type 0} (given xs : List A) (i : ℕ) (x : A) → given ≡ xs → x ≡ get_or given i x → x ≡ get_or xs i x
+item-same given xs i x is at = subst (λ l. x ≡ get_or l i x) is at
+
 -- what stands at a place
 pub item-here : {A : Type 0} (given xs : List A) (i : ℕ) (x : A) → given ≡ xs → i < length xs → x ≡ get_or given i x
     → slice_get xs i ≡ Some x
 item-here given xs i x is low at =
-    slice_get_read xs (length xs) i x refl low (subst (λ l. x ≡ get_or l i x) is at)
+    slice_get_read xs (length xs) i x refl low (item-same given xs i x is at)
 
 -- the number that is the whole of a line
 pub first-number : (fields : List Field) (n : ℕ) (field : Field) → field ≡ get_or fields 0 field

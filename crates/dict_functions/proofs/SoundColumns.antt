@@ -1,14 +1,15 @@
--- What the columns of a sound definition have: defaults that fit, and names of their own.
-use Rattle.std.proofs.Common.{◌≡◌, ◌<◌, ◌+◌, ◌++◌, ◌∷◌, ◌∙◌, ℕ, zero, suc, List, [], length, map, Some, inl, inr, refl, sym, ap, arith, subst, slice_get}
+-- What a sound definition has: a key, defaults that fit, and columns with names of their own; and a function an argument.
+use Rattle.std.proofs.Common.{◌≡◌, ◌≢◌, ◌<◌, ◌+◌, ◌++◌, ◌∷◌, ◌∙◌, ℕ, zero, suc, List, [], length, map, Some, inl, inr, refl, sym, ap, arith, subst, slice_get}
 use Rattle.std.specs.List.{range_with_len}
 use Rattle.std.proofs.lemmas.Option.{none-some, same_Some, slice_get_within}
 use Rattle.std.proofs.lemmas.Bool.{cases_lt}
 use Rattle.dict_schema.specs.Judging.{AreClear, IsClear, Numbered, Rule, Where}
-use Rattle.dict_schema.specs.Parts.{column_names}
-use Rattle.dict_schema.specs.Sound.{IsSound}
-use Rattle.dict_schema.specs.Table.{IsBadDefault, IsBadParent, IsDuplicate, IsMissingKey, NamesWithin, attributes, counts, keys, ranges, settings, sources}
+use Rattle.dict_schema.specs.Parts.{argument_names, column_names}
+use Rattle.dict_schema.specs.Sound.{IsSound, IsSoundFunction}
+use Rattle.dict_schema.specs.Table.{IsBadDefault, IsBadParent, IsDuplicate, IsMissingKey, NamesWithin, arguments, attributes, counts, function_counts, function_settings, function_source, keys, ranges, settings, sources}
 use Rattle.dict_schema.specs.declared.definition.Column.{Column}
 use Rattle.dict_schema.specs.declared.definition.Definition.{Definition}
+use Rattle.dict_schema.specs.declared.definition.FunctionDef.{FunctionDef}
 use Rattle.dict_schema.specs.declared.fault.DefFault.TheVariants as fault
 use Rattle.dict_value.specs.Values.{FitsColumn}
 use Rattle.dict_functions.specs.Asking.{IsAttributeNamed}
@@ -38,6 +39,14 @@ mapped-at f [] k x here = absurd (none-some x here)
 mapped-at f (y ∷ xs) zero x here = ap (λ a. Some (f a)) (same_Some y x here)
 mapped-at f (y ∷ xs) (suc k) x here = mapped-at f xs k x here
 
+-- a function has an argument
+pub arguments-some : (f : FunctionDef) → IsSoundFunction f → f.args ≢ []
+arguments-some f sound none =
+    let behind_counts = rest-clear (function_counts f) (NamesWithin (argument_names f) ++ (function_settings f ++ (arguments f ++ function_source f))) sound.clear in
+    let behind_names = rest-clear (NamesWithin (argument_names f)) (function_settings f ++ (arguments f ++ function_source f)) behind_counts in
+    let behind_settings = rest-clear (function_settings f) (arguments f ++ function_source f) behind_names in
+    (front-clear (arguments f) (function_source f) behind_settings).0 fault.NoArguments (refl, none)
+
 -- the parts of the table that are used here
 module _ (d : Definition) (sound : IsSound d) where
   behind_settings : AreClear (keys d ++ (ranges d ++ (attributes d ++ sources d)))
@@ -45,6 +54,10 @@ module _ (d : Definition) (sound : IsSound d) where
       let behind_counts = rest-clear (counts d) (NamesWithin (column_names d) ++ (settings d ++ (keys d ++ (ranges d ++ (attributes d ++ sources d))))) sound.clear in
       let behind_names = rest-clear (NamesWithin (column_names d)) (settings d ++ (keys d ++ (ranges d ++ (attributes d ++ sources d)))) behind_counts in
       rest-clear (settings d) (keys d ++ (ranges d ++ (attributes d ++ sources d))) behind_names
+
+  -- there is a key
+  pub keys-some : d.keys ≢ []
+  keys-some none = (front-clear (keys d) (ranges d ++ (attributes d ++ sources d)) behind_settings).0 fault.NoKey (refl, none)
 
   -- a default fits its column
   pub default-fits : (place : ℕ) (column : Column) → slice_get d.columns place ≡ Some column → FitsColumn column.ty column.default

@@ -80,11 +80,11 @@ abbrev pub ReadsKey : Definition → List Field → Key → Type 0
 ReadsKey d fields key = ReadsKeyBy (lookup_by d.layout) d fields key
 
 -- the first line, from 1, of which this doesn't hold
-pub record IsFirstWithout (P : List Field → Type 0) (lines : List (List Field)) (number : ℕ) : Type 0 where
-  pub before : List (List Field)
-  pub fields : List Field
-  pub after : List (List Field)
-  pub parts : lines ≡ before ++ fields ∷ after
+pub record IsFirstWithout {A : Type 0} (P : A → Type 0) (lines : List A) (number : ℕ) : Type 0 where
+  pub before : List A
+  pub line : A
+  pub after : List A
+  pub parts : lines ≡ before ++ line ∷ after
   pub counted : number ≡ length before + 1
   pub earlier : All P before
-  pub without : ¬ (P fields)
+  pub without : ¬ (P line)

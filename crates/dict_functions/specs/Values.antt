@@ -29,12 +29,16 @@ StandsIn verb.GetOrDefault column fallback v = reading column.ty fallback ≡ Ok
 StandsIn verb.GetOrNull column fallback v = v ≡ Null
 StandsIn _ column fallback v = ⊥
 
+-- the text of what stands in for an attribute
+abbrev pub StandsInText : Asked → Column → List ℕ → Type 0
+StandsInText q column text =
+    (v : Value) × StandsIn q.verb column q.fallback v × (text ≡ printed column.ty.base v)
+
 -- the text of the attribute in the row that was found, or of what stands in for it
 abbrev pub IsCellText : Contents → Asked → ℕ → Column → Option ℕ → List ℕ → Type 0
 IsCellText c q place column (Some row) text =
     IsPrintedAt c.definition c.rows row (attribute_place c.definition place) text
-IsCellText c q place column None text =
-    (v : Value) × StandsIn q.verb column q.fallback v × (text ≡ printed column.ty.base v)
+IsCellText c q place column None text = StandsInText q column text
 
 -- the text of an attribute for a key: it is that of the row which the plain lookup finds
 pub record IsAttributeText (c : Contents) (q : Asked) (fields : List Field) (text : List ℕ) : Type 0 where

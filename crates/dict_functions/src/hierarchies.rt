@@ -122,6 +122,8 @@ impl HierarchyOf<'_> {
 }
 
 impl OfLine for HierarchyOf<'_> {
+    type Item = Fields;
+
     type Made = Line;
 
     ghost takes = { λ of fields. (length fields ≡ key_count of.q.now.verb) × IsTrue (asks_hierarchy of.q.now.verb)

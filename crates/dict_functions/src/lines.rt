@@ -1,11 +1,10 @@
-// What is made of each line of a request.
+// What is made of each line of a request, or of what was answered for it.
 ghost use Rattle.std.specs.Prelude.{◌≡◌, ◌<◌, ◌∷◌, ◌++◌, ◌+◌, ◌^◌, ℕ, List, All, Err, IfOk, length};
 ghost use Rattle.std.specs.List.{AllZip};
-ghost use Rattle.dict_value.specs.declared.value.Field.{Field as FieldOf};
 ghost use Rattle.dict_functions.specs.Keys.{IsFirstWithout};
 ghost use Rattle.dict_functions.specs.steps.Lines.{value_fault};
 
-use dict_value::{BadValue, Fields, ListOf};
+use dict_value::{BadValue, ListOf};
 use std::alloc::Global;
 
 /// Why nothing is made of a line.
@@ -33,31 +32,33 @@ pub(crate) enum LinesFault {
     NoMemory,
 }
 
-/// What makes something of a line.
+/// What makes something of a line, or of what was answered for it.
 pub(crate) trait OfLine {
+    type Item;
+
     type Made: Drop;
 
     /// A line that it may be handed.
-    ghost takes: { Self → List FieldOf → Type 0 };
+    ghost takes: { Self → Self.Item → Type 0 };
 
     /// A line that can be read.
-    ghost reads: { Self → List FieldOf → Type 0 };
+    ghost reads: { Self → Self.Item → Type 0 };
 
     /// What is made of a line.
-    ghost makes: { Self → List FieldOf → Self.Made → Type 0 };
+    ghost makes: { Self → Self.Item → Self.Made → Type 0 };
 
-    fn make(&self, alloc: Global, fields: &Fields) -> Result<Self::Made, LineFault>
-        requires { takes self.now fields.now }
-        ensures read { IfOk result (λ _. reads self.now fields.now) }
-        ensures made { IfOk result (makes self.now fields.now) }
-        ensures unread { result ≡ Err LineFault.Unread → ¬ (reads self.now fields.now) };
+    fn make(&self, alloc: Global, line: &Self::Item) -> Result<Self::Made, LineFault>
+        requires { takes self.now line.now }
+        ensures read { IfOk result (λ _. reads self.now line.now) }
+        ensures made { IfOk result (makes self.now line.now) }
+        ensures unread { result ≡ Err LineFault.Unread → ¬ (reads self.now line.now) };
 }
 
 /// What is made of each line, or the first line that can't be read.
 pub(crate) fn each_line<L: OfLine>(
     alloc: Global,
     of: &L,
-    lines: &ListOf<Fields>,
+    lines: &ListOf<L::Item>,
 ) -> Result<ListOf<L::Made>, LinesFault>
     requires takes { All (L.takes of.now) lines.now }
     requires few { length lines.now < 2 ^ 32 }

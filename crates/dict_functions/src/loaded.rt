@@ -56,6 +56,8 @@ impl AttributeOf<'_> {
 }
 
 impl OfLine for AttributeOf<'_> {
+    type Item = Fields;
+
     type Made = Line;
 
     ghost takes = { λ of fields. IsAttributeOf of.version.now.definition of.q.now of.attribute.now
@@ -91,6 +93,8 @@ struct HasOf<'a> {
 }
 
 impl OfLine for HasOf<'_> {
+    type Item = Fields;
+
     type Made = Line;
 
     ghost takes = { λ of fields. of.types.now ≡ key_types of.version.now.definition };

@@ -1,6 +1,7 @@
 -- What is made of the lines of a lookup, and what their faults mean.
-use Rattle.std.specs.Prelude.{◌≡◌, ◌∷◌, [], ℕ, zero, suc, List, Option, Result, MatchResult, decimal}
+use Rattle.std.specs.Prelude.{◌≡◌, ◌∷◌, [], ℕ, zero, suc, List, Option, Some, Result, MatchResult, decimal, slice_get}
 use Rattle.std.specs.List.{AllZip}
+use Rattle.dict_schema.specs.Sound.{IsSound}
 use Rattle.dict_schema.specs.declared.definition.Column.{Column}
 use Rattle.dict_schema.specs.declared.definition.Definition.{Definition}
 use Rattle.dict_value.specs.declared.letters.TheConstants.{COMMA}
@@ -18,6 +19,7 @@ use Rattle.wire_text.specs.declared.request.Verb.{Verb}
 use Rattle.wire_text.specs.declared.request.Verb.TheVariants as verb
 use Rattle.dict_functions.specs.Answers.{IsLoadedLine}
 use Rattle.dict_functions.specs.Asking.{IsAttributeNamed}
+use Rattle.dict_functions.specs.Keyed.{fetched_place}
 use Rattle.dict_functions.specs.Refusals.{IsFitting, IsRefusal}
 use Rattle.dict_functions.specs.Values.{AnswersVerb, IsCellText, StandsIn}
 use Rattle.dict_functions.specs.declared.asking.Attribute.{Attribute}
@@ -25,6 +27,8 @@ use Rattle.dict_functions.specs.declared.lines.LineFault.{LineFault}
 use Rattle.dict_functions.specs.declared.lines.LineFault.TheVariants as one
 use Rattle.dict_functions.specs.declared.lines.LinesFault.{LinesFault}
 use Rattle.dict_functions.specs.declared.lines.LinesFault.TheVariants as several
+use Rattle.dict_functions.specs.declared.sending.RowsFault.{RowsFault}
+use Rattle.dict_functions.specs.declared.sending.RowsFault.TheVariants as rows
 
 -- what a field without a value means
 abbrev pub value_fault : BadValue → LineFault
@@ -51,6 +55,13 @@ pub record IsAttributeOf (d : Definition) (q : Asked) (attribute : Attribute) : 
   pub stands : StandsIn q.verb column q.fallback value
   pub missing : attribute.missing ≡ printed column.ty.base value
 
+-- the attribute that is asked for, its column, and its place in a fetched row
+pub record IsFetchedOf (d : Definition) (q : Asked) (attribute : Attribute) (column : Column) (cell : ℕ) : Type 0 where
+  pub of : IsAttributeOf d q attribute
+  pub here : slice_get d.columns attribute.place ≡ Some column
+  pub sound : IsSound d
+  pub cell_is : cell ≡ fetched_place d attribute.place
+
 -- how many numbers a line has by which a hierarchy is asked
 abbrev pub key_count : Verb → ℕ
 key_count verb.IsIn = 2
@@ -71,6 +82,17 @@ IsFromText q c key text =
 abbrev pub key_fault : LinesFault → ReplyFault
 key_fault (several.Unread line) = fault.BadKey line
 key_fault several.NoMemory = fault.NoMemory
+
+-- what an unread line means for the rows
+abbrev pub unread_rows : LinesFault → RowsFault
+unread_rows (several.Unread line) = rows.Unread line
+unread_rows several.NoMemory = rows.NoMemory
+
+-- what it means that no rows can be sent
+abbrev pub rows_fault : (ℕ → ReplyFault) → RowsFault → ReplyFault
+rows_fault unread (rows.Unread line) = unread line
+rows_fault unread rows.TooLong = fault.TooLarge
+rows_fault unread rows.NoMemory = fault.NoMemory
 
 -- what an unread default means
 abbrev pub default_fault : LineFault → ReplyFault
