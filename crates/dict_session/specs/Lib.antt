@@ -4,3 +4,5 @@ pub mod Acts
 pub mod Facts
 pub mod Asks
 pub mod Floors
+pub mod Answers
+pub mod Serving

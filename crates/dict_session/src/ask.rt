@@ -86,7 +86,7 @@ fn by_dictionary(item: Option<&Item>, keyed: Ask, loaded: Ask) -> Ask
 }
 
 /// What a lookup asks for.
-fn lookup_ask(items: &[Item], q: &Asked) -> Ask
+pub(crate) fn lookup_ask(items: &[Item], q: &Asked) -> Ask
     requires { length items.now ≤ u32.MAX }
     ensures { IsLookupAsk items.now q.now.verb q.now.name result }
 {

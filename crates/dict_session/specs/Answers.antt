@@ -1,0 +1,120 @@
+-- The desk's calls for one request, and the reply that follows from their answers.
+use Rattle.std.specs.Prelude.{◌≡◌, ◌⊎◌, ℕ, List, [], ◌∷◌, Option, Some, None, Result, Ok, Err, if◌then◌else◌, nat_lt, slice_get}
+use Rattle.ddl_writing.specs.Canonical.{item_text}
+use Rattle.dict_functions.specs.Answers.{AnswersSeen}
+use Rattle.dict_schema.specs.declared.definition.Item.{Item}
+use Rattle.dict_schema.specs.declared.definition.Item.TheVariants.{Dictionary}
+use Rattle.dict_session.specs.Acts.{Act, Entered, Taught, Reloaded, Configured}
+use Rattle.dict_session.specs.Asks.{IsAskOf}
+use Rattle.dict_session.specs.declared.ask.Ask.{Ask}
+use Rattle.dict_session.specs.declared.ask.Ask.TheVariants.{Refuse, SayBye, Look, Fetch, Apply, Load, Teach, Reach}
+use Rattle.dict_session.specs.declared.ask.Ask.TheVariants.{Show, ShowEntered, Configure}
+use Rattle.dict_session.specs.declared.desk.ConfigEnd.{ConfigEnd}
+use Rattle.dict_session.specs.declared.desk.ConfigEnd.TheVariants as config
+use Rattle.dict_version.specs.Contents.{Contents}
+use Rattle.loader.specs.declared.answers.LoadEnd.{LoadEnd}
+use Rattle.loader.specs.declared.answers.LoadEnd.TheVariants as end
+use Rattle.loader.specs.declared.answers.StatusRow.{StatusRow}
+use Rattle.version_slot.specs.Views.{Entered as Seen}
+use Rattle.version_slot.specs.declared.seen.EnterFault.{EnterFault}
+use Rattle.version_slot.specs.declared.seen.EnterFault.TheVariants as enter
+use Rattle.wire_text.specs.RequestTexts.{Heard}
+use Rattle.wire_text.specs.declared.reply.Reply.{Reply}
+use Rattle.wire_text.specs.declared.reply.Reply.TheVariants.{Status, Number, Shown, Config, Bye, Refused}
+use Rattle.wire_text.specs.declared.reply.ReplyFault.TheVariants as fault
+use Rattle.wire_text.specs.declared.request.Asked.{Asked}
+use Rattle.wire_text.specs.declared.request.Request.TheVariants as request
+
+-- ---- replies by what a call answered
+
+abbrev pub no_memory : Reply
+no_memory = Refused fault.NoMemory
+
+-- the refusal of an entering
+abbrev pub entering_refused : EnterFault → Reply
+entering_refused enter.Shut = Refused fault.Shut
+entering_refused enter.NoMemory = no_memory
+
+-- the number that was seen, at least the one that was asked for
+abbrev pub reach_reply : ℕ → Result (Seen Contents) EnterFault → Reply
+reach_reply number (Ok seen) = if nat_lt seen.number number then Refused (fault.Behind seen.number) else Number seen.number
+reach_reply number (Err refusal) = entering_refused refusal
+
+abbrev pub shown_item : Option Item → Reply
+shown_item (Some item) = Shown (item_text item)
+shown_item None = Refused fault.UnknownDictionary
+
+-- the current definition of the list that was entered: that of its last entry, else the item's
+abbrev pub current_item : Option Item → Option Contents → Option Item
+current_item item (Some c) = Some (Dictionary c.definition)
+current_item item None = item
+
+abbrev pub shown_reply : Option Item → Result (Seen Contents) EnterFault → Reply
+shown_reply item (Ok seen) = shown_item (current_item item seen.version)
+shown_reply item (Err refusal) = entering_refused refusal
+
+abbrev pub load_reply : LoadEnd → Reply
+load_reply (end.Published number) = Number number
+load_reply (end.Failed cause) = Refused (fault.Load cause)
+load_reply end.NoMemory = no_memory
+
+abbrev pub status_reply : StatusRow → Reply
+status_reply row =
+    Status record { number = row.number; state = row.state; oks = row.oks; fails = row.fails; cause = row.cause }
+
+abbrev pub config_reply : ConfigEnd → Reply
+config_reply (config.Done changed published) = Config changed published
+config_reply config.Unread = Refused fault.ConfigUnread
+config_reply config.TooLong = Refused fault.ConfigTooLong
+config_reply (config.Refused line place words) = Refused (fault.ConfigRefused line place words)
+config_reply (config.Names item) = Refused (fault.ConfigNames item)
+config_reply config.NoMemory = no_memory
+
+-- what a lookup asks
+abbrev pub asked_in : Heard → Option Asked
+asked_in (Heard.asks (request.Asked q)) = Some q
+asked_in _ = None
+
+-- the answer to a lookup from the one version that was entered
+abbrev pub LooksUp : Option Asked → Result (Seen Contents) EnterFault → Reply → Type 0
+LooksUp (Some q) (Ok seen) reply = AnswersSeen seen q reply
+LooksUp (Some q) (Err refusal) reply = reply ≡ entering_refused refusal
+LooksUp None answer reply = ⊥
+
+-- ---- one request
+
+-- the calls that are asked for, whatever they answered
+abbrev pub CallsOf : Ask → ℕ → List Act → Type 0
+CallsOf (Look d) now calls = (answer : Result (Seen Contents) EnterFault) × (calls ≡ Entered d answer ∷ [])
+CallsOf (Reach d number) now calls = (answer : Result (Seen Contents) EnterFault) × (calls ≡ Entered d answer ∷ [])
+CallsOf (ShowEntered d) now calls = (answer : Result (Seen Contents) EnterFault) × (calls ≡ Entered d answer ∷ [])
+CallsOf (Load d) now calls = (end : LoadEnd) × (calls ≡ Reloaded d now end ∷ [])
+CallsOf (Teach d) now calls = (row : StatusRow) × (calls ≡ Taught d row ∷ [])
+CallsOf Configure now calls = (end : ConfigEnd) × (calls ≡ Configured now end ∷ [])
+CallsOf _ now calls = calls ≡ []
+
+-- the calls that are asked for, and the reply that follows from their answers
+abbrev pub Answers : List Item → Heard → Ask → ℕ → List Act → Reply → Type 0
+Answers items heard (Refuse refusal) now calls reply = (calls ≡ []) × (reply ≡ Refused refusal)
+Answers items heard SayBye now calls reply = (calls ≡ []) × (reply ≡ Bye)
+Answers items heard (Look d) now calls reply = (answer : Result (Seen Contents) EnterFault)
+    × (calls ≡ Entered d answer ∷ []) × LooksUp (asked_in heard) answer reply
+Answers items heard (Reach d number) now calls reply = (answer : Result (Seen Contents) EnterFault)
+    × (calls ≡ Entered d answer ∷ []) × (reply ≡ reach_reply number answer)
+Answers items heard (ShowEntered d) now calls reply = (answer : Result (Seen Contents) EnterFault)
+    × (calls ≡ Entered d answer ∷ []) × (reply ≡ shown_reply (slice_get items d) answer)
+Answers items heard (Show place) now calls reply = (calls ≡ []) × (reply ≡ shown_item (slice_get items place))
+Answers items heard (Load d) now calls reply =
+    (end : LoadEnd) × (calls ≡ Reloaded d now end ∷ []) × (reply ≡ load_reply end)
+Answers items heard (Teach d) now calls reply =
+    (row : StatusRow) × (calls ≡ Taught d row ∷ []) × (reply ≡ status_reply row)
+Answers items heard Configure now calls reply =
+    (end : ConfigEnd) × (calls ≡ Configured now end ∷ []) × (reply ≡ config_reply end)
+Answers items heard (Fetch d) now calls reply = ⊥
+Answers items heard (Apply f) now calls reply = ⊥
+
+-- a request was answered; or memory was refused: then this is the reply, and the calls may be cut short
+abbrev pub IsServed : List Item → Option Heard → ℕ → List Act → Reply → Type 0
+IsServed items (Some heard) now calls reply = (ask : Ask) × IsAskOf items heard ask
+    × (Answers items heard ask now calls reply ⊎ (reply ≡ no_memory) × ((calls ≡ []) ⊎ CallsOf ask now calls))
+IsServed items None now calls reply = (reply ≡ no_memory) × (calls ≡ [])
