@@ -13,4 +13,4 @@ mod types;
 pub mod words;
 mod writing;
 
-pub use writing::write_definition;
+pub use writing::{write_definition, write_dictionary};

@@ -3,6 +3,8 @@ ghost use Rattle.std.specs.Prelude.{◌≡◌, ◌++◌, length, take, OnErr, On
 ghost use Rattle.std.specs.List.{flat_map};
 ghost use Rattle.ddl_writing.specs.Canonical.{DefaultsFit, HasNoFault, and_then, arguments_text, definition_text};
 ghost use Rattle.ddl_writing.specs.Canonical.{function_text, item_text, other_arguments_text, signature_text, table_text, typed_text};
+ghost use Rattle.dict_schema.specs.Judging.{AreClear};
+ghost use Rattle.dict_schema.specs.Table.{table};
 
 use crate::clauses::{push_clauses, push_output};
 use crate::columns::{push_columns, push_keys};
@@ -115,6 +117,35 @@ fn push_item(out: &mut Bytes, item: &Item) -> Result<(), NoMemory>
     }
 }
 
+/// Keeps what was written behind so many bytes, or drops it where it isn't whole.
+fn whole_or_none(
+    written: Result<(), NoMemory>,
+    before: usize,
+    out: &mut Bytes,
+) -> Result<(), NoMemory>
+    ensures same { result ≡ written }
+    ensures ok { OnOk result (out.new ≡ out.old) }
+    ensures err { OnErr result (out.new ≡ take before out.old) }
+{
+    if written.is_err() {
+        out.truncate(before);
+    }
+    written
+}
+
+/// Appends the one text of a dictionary, in which `dict_schema::check` finds no fault; after `NoMemory` nothing has
+/// changed.
+#[tactic(auto, using(crate::proofs::Defaults::defaults_fit))]
+pub fn write_dictionary(d: &Definition, out: &mut Bytes) -> Result<(), NoMemory>
+    requires { AreClear (table d.now) }
+    ensures ok { OnOk result (out.new ≡ out.old ++ definition_text d.now) }
+    ensures err { OnErr result (out.new ≡ out.old) }
+{
+    let before = out.len();
+    let written = push_definition(out, d);
+    whole_or_none(written, before, out)
+}
+
 /// Appends the one text of an item, in which `dict_schema::check` finds no fault; after `NoMemory` nothing has changed.
 pub fn write_definition(item: &Item, out: &mut Bytes) -> Result<(), NoMemory>
     requires { HasNoFault item.now }
@@ -123,10 +154,7 @@ pub fn write_definition(item: &Item, out: &mut Bytes) -> Result<(), NoMemory>
 {
     let before = out.len();
     let written = push_item(out, item);
-    if written.is_err() {
-        out.truncate(before);
-    }
-    written
+    whole_or_none(written, before, out)
 }
 
 #[cfg(test)]

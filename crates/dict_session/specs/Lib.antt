@@ -2,3 +2,5 @@
 pub mod Items
 pub mod Acts
 pub mod Facts
+pub mod Asks
+pub mod Floors

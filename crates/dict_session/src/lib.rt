@@ -1,9 +1,15 @@
 //! Sessions: what a session asks of the dictionaries and the functions.
 //!
 //! [`Desk`] names the calls and what may be said of their answers: each is told as an act that leads from one state of
-//! the desk to the next, and each view afterwards begins with the one before.
+//! the desk to the next, and each view afterwards begins with the one before. [`ask_of`] gives what a request asks for,
+//! the refusals that need no call included. A law says that acts which lead on from where others led keep what holds of
+//! both: the numbers that were seen never fall, and what was seen stands in the views at the end.
 #![tactic(auto)]
 
+pub mod ask;
 pub mod desk;
+pub mod laws;
 
+pub use ask::{Ask, ask_of};
 pub use desk::{ConfigEnd, Desk};
+pub use laws::{acts_follow, an_entering_keeps_floors};

@@ -1,0 +1,3 @@
+pub mod CoreRuns
+pub mod WorldJudge
+pub mod WorldRuns

@@ -1,0 +1,42 @@
+// What holds of every load and of every output, whatever is called.
+ghost use Rattle.std.specs.Prelude.{◌≡◌, ◌<◌, ◌≤◌, ◌↔◌, ℕ, List, Some, None, Ok, Err, pos};
+ghost use Rattle.child_io.specs.declared.child.Outcome.TheVariants.{Ended};
+ghost use Rattle.child_io.specs.declared.pieces.PieceEnd.{PieceEnd};
+ghost use Rattle.dict_schema.specs.declared.definition.Definition.{Definition};
+ghost use Rattle.dict_value.specs.declared.fault.Cause.{Cause};
+ghost use Rattle.dict_value.specs.declared.fault.Exit.TheVariants.{Code};
+ghost use Rattle.dict_version.specs.Contents.{Contents};
+ghost use Rattle.load_core.specs.DictSteps.{most_loads};
+ghost use Rattle.load_core.specs.WorldRows.{row_verdicts};
+ghost use Rattle.load_core.specs.WorldSteps.{Candidate, dict_at, formers};
+ghost use Rattle.load_core.specs.declared.dictionary.DictCore.{DictCore};
+ghost use Rattle.load_core.specs.declared.dictionary.Phase.TheVariants.{Idle};
+ghost use Rattle.load_core.specs.declared.world.World.{World};
+ghost use Rattle.load_core.specs.declared.world.WorldDict.{WorldDict};
+ghost use Rattle.packed_rows.specs.Columns.{RowList};
+ghost use Rattle.loader.specs.Accepts.{Accepts};
+ghost use Rattle.loader.specs.Loaders.{ComesTo};
+ghost use Rattle.loader.specs.Worlds.{AreVersionsOf, LeadsTo, world_definition, world_events};
+ghost use Rattle.loader.specs.declared.answers.LoadEnd.{LoadEnd};
+
+/// The judge of `World::run` is what a load of its dictionary is judged by: it accepts a text exactly where the output
+/// of a child that ends with status 0 is accepted, and refuses it for exactly that cause.
+pub fn world_judge()
+    ensures accepted { (load : Candidate) (former : RowList) → row_verdicts load None
+        ↔ ((rows : RowList) × Accepts world_definition former (Ended load.bytes (Code (pos 0))) (Ok rows)) }
+    ensures refused { (load : Candidate) (former : RowList) (why : Cause) → row_verdicts load (Some why)
+        ↔ Accepts world_definition former (Ended load.bytes (Code (pos 0))) (Err why) }
+{}
+
+/// What a load does to its dictionary is a run of the world, with the judge by which a load is judged: it starts with
+/// its definition, takes the pieces, finishes, publishes where it published, and posts. So what holds of every run of
+/// the world holds of loads.
+pub fn loads_run_the_world()
+    ensures { (definition_of : ℕ → Definition) (old : World) (place number now : ℕ) (x : WorldDict)
+        (list after : List Contents) (new : DictCore) (ending : PieceEnd) (pieces : List (List ℕ)) (end : LoadEnd)
+        → dict_at old place ≡ Some x → x.core.phase ≡ Idle → x.core.loads < most_loads → number < old.definitions
+        → (definition_of number).max_output ≤ 134217728 → AreVersionsOf definition_of (formers x.entries) list
+        → ComesTo (definition_of number) now list after x.core new ending pieces end
+        → LeadsTo definition_of old place
+        (world_events place number (definition_of number).max_output pieces ending end) new after }
+{}
