@@ -14,8 +14,8 @@ use Rattle.dict_schema.specs.declared.definition.Item.TheVariants.{Dictionary, F
 use Rattle.dict_session.specs.Items.{IsFunctionItem, IsKeyedItem, IsLoadedItem}
 use Rattle.dict_version.specs.Contents.{Contents}
 use Rattle.dict_schema.specs.Parts.{is_keyed_layout}
-use Rattle.dict_hub.specs.Changes.{AllStand, CanChange, Stands, StandsAt}
-use Rattle.dict_hub.specs.Over.{At, Children, IsLoaded, OverState, count_at, view_at}
+use Rattle.dict_hub.specs.Changes.{AllStand, Stands, StandsAt}
+use Rattle.dict_hub.specs.Over.{At, Children, IsLoaded, OverState, count_at, over_state, view_at}
 use Rattle.version_slot.proofs.Views.{prefix-self}
 
 slice_get_map : {A B : Type 0} (f : A → B) (cs : List A) (d : ℕ) (x : A) → d < length cs → x ≡ get_or cs d x → slice_get (map f cs) d ≡ Some (f x)
@@ -44,14 +44,7 @@ counts_have_cause P f (c ∷ cs) (suc d) x y lt is h = counts_have_cause P f cs 
 
 -- the state of a desk of these parts
 abbrev pub state_of : {A B F : Type 0} → (A → B) → List Item → F → Option (List ℕ) → Children → List A → Bool → OverState B F
-state_of f items file moments children cs reloads = record {
-  items = items;
-  file = file;
-  moments = moments;
-  children = children;
-  dictionaries = map f cs;
-  reloads = reloads;
-}
+state_of f items file moments children cs reloads = over_state items file moments children (map f cs) reloads
 
 pub moved_at : {A B F : Type 0} (f : A → B) (moves : B → Children → B → Children → Type 0) (cs : List A) (d : ℕ) (x y : A)
     (items : List Item) (file : F) (moments : Option (List ℕ)) (before after : Children) (reloads : Bool)

@@ -1,9 +1,9 @@
 -- How another definitions file may change the items of a desk.
-use Rattle.std.specs.Prelude.{◌≡◌, ◌≢◌, ◌⊎◌, ◌+◌, ◌<◌, ℕ, List, Option, Some, None, length, slice_get, ⊤, false}
+use Rattle.std.specs.Prelude.{◌≡◌, ◌⊎◌, ◌+◌, ◌<◌, ℕ, List, Option, Some, length, slice_get, ⊤, false}
 use Rattle.dict_schema.specs.Parts.{is_keyed_layout}
 use Rattle.dict_schema.specs.declared.definition.Definition.{Definition}
 use Rattle.dict_schema.specs.declared.definition.Item.{Item}
-use Rattle.dict_schema.specs.declared.definition.Item.TheVariants.{Dictionary, Function}
+use Rattle.dict_schema.specs.declared.definition.Item.TheVariants.{Dictionary}
 use Rattle.dict_session.specs.declared.desk.ConfigEnd.{ConfigEnd}
 use Rattle.dict_session.specs.declared.desk.ConfigEnd.TheVariants as config
 

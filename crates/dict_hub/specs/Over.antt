@@ -38,6 +38,16 @@ pub record OverState (D F : Type 0) : Type 0 where
   pub dictionaries : List D
   pub reloads : Bool
 
+abbrev pub over_state : {D F : Type 0} → List Item → F → Option (List ℕ) → Children → List D → Bool → OverState D F
+over_state items file moments children dictionaries reloads = record {
+  items = items;
+  file = file;
+  moments = moments;
+  children = children;
+  dictionaries = dictionaries;
+  reloads = reloads;
+}
+
 -- a dictionary that is fully loaded
 abbrev pub IsLoaded : Item → Type 0
 IsLoaded (Dictionary d) = is_keyed_layout d.layout ≡ false

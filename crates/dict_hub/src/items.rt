@@ -1,13 +1,30 @@
 // The items of a desk.
-ghost use Rattle.std.specs.Prelude.{◌≡◌, ◌<◌, All, IfNone, IfSome, length};
+ghost use Rattle.std.specs.Prelude.{◌≡◌, ◌<◌, ◌↔◌, All, IfNone, IfSome, IsTrue, length};
 ghost use Rattle.dict_hub.specs.Changes.{AllStand, IsFirstUnlike};
-ghost use Rattle.dict_hub.specs.Over.{AllLoaded, AreDesks};
+ghost use Rattle.dict_hub.specs.Over.{AllLoaded, AreDesks, IsLoaded};
 ghost use Rattle.dict_schema.specs.Sound.{IsSoundItem};
 
 use crate::changes::first_unlike;
-use dict_schema::Item;
+use dict_schema::{Item, is_keyed};
 use dict_value::ListOf;
 use std::marker::Model;
+
+/// Whether an item is a dictionary that is fully loaded.
+fn is_loaded(item: &Item) -> bool
+    ensures { IsTrue result ↔ IsLoaded item.now }
+{
+    match item {
+        Item::Dictionary(d) => !is_keyed(d),
+        Item::Function(_) => false,
+    }
+}
+
+/// Whether each item is a dictionary that is fully loaded.
+pub fn are_loaded(items: &[Item]) -> bool
+    ensures { IsTrue result ↔ AllLoaded items.now }
+{
+    items.iter().all(|item| is_loaded(item))
+}
 
 /// Sound items, each of which is a dictionary that is fully loaded.
 #[derive(Drop)]

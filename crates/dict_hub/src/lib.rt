@@ -10,6 +10,6 @@ mod over;
 mod parts;
 
 pub use following::Counts;
-pub use items::Items;
+pub use items::{Items, are_loaded};
 pub use over::DeskOver;
 pub use parts::{DictAt, FileAt};

@@ -1,7 +1,7 @@
 // A desk over its parts.
 ghost use Rattle.std.specs.Prelude.{◌≡◌, ◌≤◌, All, length, map};
 ghost use Rattle.dict_hub.specs.Changes.{AllStand};
-ghost use Rattle.dict_hub.specs.Over.{FollowUpTo, OverState, children_of, count_at, moves_of, over_facts};
+ghost use Rattle.dict_hub.specs.Over.{FollowUpTo, OverState, children_of, count_at, moves_of, over_facts, over_state};
 ghost use Rattle.dict_io.specs.declared.outside.TheConstants.{LAST_MOMENT};
 ghost use Rattle.dict_session.specs.Facts.{Grows};
 ghost use Rattle.dict_schema.specs.Sound.{IsSoundItem};
@@ -33,6 +33,29 @@ pub struct DeskOver<S: Spawner, K: Clock, C: DictAt<S>, F: FileAt> {
 }
 
 impl<S: Spawner, K: Clock, C: DictAt<S>, F: FileAt> DeskOver<S, K, C, F> {
+    /// The dictionaries stand in the order of their items.
+    pub fn new(
+        spawner: S,
+        clock: K,
+        file: F,
+        items: Items,
+        dictionaries: Vec<C>,
+        reloads: bool,
+    ) -> DeskOver<S, K, C, F>
+        requires { length dictionaries.items ≡ length items }
+        ensures { ⟦<DeskOver<S, K, C, F> as Desk>⟧.state result ≡ over_state items (F.state file) (K.moments clock)
+            (children_of S.scripts S.starts spawner) (map C.state dictionaries.items) reloads }
+    {
+        DeskOver {
+            spawner,
+            clock,
+            file,
+            items,
+            dictionaries,
+            reloads,
+        }
+    }
+
     /// Hands each dictionary the item that stands in its place now.
     fn follow(&mut self, alloc: Global, items: ListOf<Item>, now: u64) -> Counts
         requires stand { AllStand self.old.items items }
@@ -66,14 +89,8 @@ impl<S: Spawner, K: Clock, C: DictAt<S>, F: FileAt> DeskOver<S, K, C, F> {
 impl<S: Spawner, K: Clock, C: DictAt<S>, F: FileAt> Desk for DeskOver<S, K, C, F> {
     ghost State = { OverState C.State F.State };
 
-    ghost state = { λ s. record {
-      items = s.items;
-      file = F.state s.file;
-      moments = K.moments s.clock;
-      children = children_of S.scripts S.starts s.spawner;
-      dictionaries = map C.state s.dictionaries.items;
-      reloads = s.reloads;
-    } };
+    ghost state = { λ s. over_state s.items (F.state s.file) (K.moments s.clock)
+        (children_of S.scripts S.starts s.spawner) (map C.state s.dictionaries.items) s.reloads };
 
     ghost facts = { over_facts C.view (moves_of C.entered C.taught C.loaded C.due C.loaded_as C.judged F.reads) };
 

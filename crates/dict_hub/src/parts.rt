@@ -86,7 +86,13 @@ pub trait DictAt<S: Spawner> {
         ensures same { state self.new ≡ state self.old };
 
     /// One load with another definition; of a published version its viewer has learnt.
-    fn load_as(&mut self, alloc: Global, definition: Definition, spawner: &mut S, now: u64) -> LoadEnd
+    fn load_as(
+        &mut self,
+        alloc: Global,
+        definition: Definition,
+        spawner: &mut S,
+        now: u64,
+    ) -> LoadEnd
         requires sound { IsSound definition }
         requires kept { is_keyed_layout definition.layout ≡ false }
         requires bound { now ≤ LAST_MOMENT }

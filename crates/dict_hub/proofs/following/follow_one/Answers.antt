@@ -1,4 +1,4 @@
-use Rattle.std.proofs.Common.{◌≡◌, refl, subst, true, false}
+use Rattle.std.proofs.Common.{refl, subst}
 use Rattle.dict_hub.specs.Over.Follows.{same}
 use Rattle.dict_hub.proofs.Followed.{followed}
 use Rattle.dict_hub.proofs.following.follow_one.Goals as goal

@@ -9,13 +9,13 @@ use Rattle.dict_hub.proofs.over.DeskOver.follow.Given as goal
 abbrev pub invariant-loop-item : goal.invariant-loop-item
 invariant-loop-item g l =
     let moves = moves_of g.C.DictAt.entered g.C.DictAt.taught g.C.DictAt.loaded g.C.DictAt.due g.C.DictAt.loaded_as
-        g.C.DictAt.judged g.F.FileAt.reads in
+    g.C.DictAt.judged g.F.FileAt.reads in
     let old = state_of g.C.DictAt.state l.initial.self.items (g.F.FileAt.state l.initial.self.file)
-        (g.K.Clock.moments l.initial.self.clock)
-        (children_of g.S.Spawner.scripts g.S.Spawner.starts l.initial.self.spawner)
-        l.initial.self.dictionaries.items l.initial.self.reloads in
+    (g.K.Clock.moments l.initial.self.clock)
+    (children_of g.S.Spawner.scripts g.S.Spawner.starts l.initial.self.spawner)
+    l.initial.self.dictionaries.items l.initial.self.reloads in
     let new = state_of g.C.DictAt.state l.self.items (g.F.FileAt.state l.self.file) (g.K.Clock.moments l.self.clock)
-        (children_of g.S.Spawner.scripts g.S.Spawner.starts l.self.spawner) l.self.dictionaries.items l.self.reloads in
+    (children_of g.S.Spawner.scripts g.S.Spawner.starts l.self.spawner) l.self.dictionaries.items l.self.reloads in
     record {
       left : l.items ≡ drop l.place l.initial.items;
       within : l.place ≤ length l.initial.items;

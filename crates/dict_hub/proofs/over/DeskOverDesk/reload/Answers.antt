@@ -1,4 +1,4 @@
-use Rattle.std.proofs.Common.{◌≡◌, ◌≤◌, length, refl, sym, subst}
+use Rattle.std.proofs.Common.{◌≤◌, length, refl, sym, subst}
 use Rattle.dict_hub.proofs.Places.{loaded-within, moved_at, view_set, views_grow}
 use Rattle.dict_hub.proofs.over.DeskOverDesk.reload.Goals as goal
 
