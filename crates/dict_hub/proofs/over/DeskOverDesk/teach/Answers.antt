@@ -1,0 +1,20 @@
+use Rattle.std.proofs.Common.{◌≡◌, ◌≤◌, length, refl, sym, subst}
+use Rattle.dict_hub.proofs.Places.{loaded-within, moved_at, view_set, views_grow}
+use Rattle.dict_hub.proofs.over.DeskOverDesk.teach.Goals as goal
+
+pub returns-clause-act : goal.returns-clause-act
+returns-clause-act g c =
+    moved_at g.C.DictAt.state (λ from before to after. g.C.DictAt.taught from c.teach.result to × (after ≡ before)) c.args.self.now.dictionaries.items c.args.d c.index_mut.result.now c.teach.new.self
+    _ _ _ _ _ _ (loaded-within c.args.self.now.items c.args.self.now.dictionaries.items c.args.d c.args.self.now.many c.requires) c.index_mut.ensures.value (c.teach.ensures.act, refl)
+
+pub returns-clause-grows : goal.returns-clause-grows
+returns-clause-grows g c = record {
+  views = views_grow g.C.DictAt.view g.C.DictAt.state c.args.self.now.dictionaries.items c.args.d c.index_mut.result.now c.teach.new.self c.index_mut.ensures.value c.teach.ensures.grows;
+  items = refl;
+}
+
+pub returns-clause-learnt : goal.returns-clause-learnt
+returns-clause-learnt g c =
+    subst (λ v. c.teach.result.number ≤ length v)
+    (sym (view_set g.C.DictAt.view g.C.DictAt.state c.args.self.now.dictionaries.items c.args.d c.teach.new.self (loaded-within c.args.self.now.items c.args.self.now.dictionaries.items c.args.d c.args.self.now.many c.requires)))
+    c.teach.ensures.learnt
