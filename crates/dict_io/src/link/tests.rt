@@ -1,36 +1,25 @@
-ghost use Rattle.std.specs.Prelude.{◌≡◌, false};
-
 use super::*;
 use crate::outside::write_all;
 use dict_value::ListOf;
-use std::process::Abort;
 use std::test::Fail;
 
-/// Answers each read with the bytes that it gave, to the end.
-fn echo<L: Link>(rt: &impl Abort, link: &mut L) -> usize
-    requires { (L.ends link.old).reads.ended ≡ false }
-{
-    let mut faults = 0;
-    for _ in 0..8 {
-        let mut buf = [0u8; 4];
-        match link.read(&mut buf) {
-            Got::Bytes(count) => assert!(rt; write_link(link, &buf[..count]).is_ok()),
-            Got::Failed => faults += 1,
-            Got::End => return faults,
-        }
-    }
-    faults
-}
-
+/// What is read is written again; the second read fails, and takes nothing.
 #[test]
 fn links_are_read_and_written(rt: HostRuntime) -> Result<(), Fail> {
     let alloc = rt.alloc();
-    let sizes = ListOf::from_vec(Vec::from_array(alloc, [3u32, 1])?);
+    let sizes = ListOf::from_vec(Vec::from_array(alloc, [3u32])?);
     let failing = ListOf::from_vec(Vec::from_array(alloc, [1u64])?);
     let input = MemorySource::new(Bytes::copy_of(alloc, b"abcdefgh")?, sizes, failing);
     let output = MemorySink::new(alloc, 8, ListOf::new(alloc))?;
     let mut link = MemoryLink::new(input, output);
-    assert_eq!(rt; echo(&rt, &mut link), 1);
+    let mut buf = [0u8; 4];
+    assert_eq!(rt; link.read(&mut buf), Got::Bytes(3));
+    assert!(rt; write_link(&mut link, &buf[..3]).is_ok());
+    assert_eq!(rt; link.read(&mut buf), Got::Failed);
+    assert_eq!(rt; link.read(&mut buf), Got::Bytes(4));
+    assert!(rt; write_link(&mut link, &buf).is_ok());
+    assert_eq!(rt; link.read(&mut buf), Got::Bytes(1));
+    assert!(rt; write_link(&mut link, &buf[..1]).is_ok());
     assert!(rt; link.written().as_slice() == b"abcdefgh".as_slice());
     assert!(rt; write_all(&mut link, b"i").is_err());
     Ok(())
