@@ -7,6 +7,7 @@ mod KeyTypes
 mod KeyedTexts
 mod KeysRead
 mod Listed
+mod Paired
 mod SentRows
 mod SideBySide
 mod SoundColumns

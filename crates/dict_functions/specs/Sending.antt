@@ -21,12 +21,14 @@ abbrev pub IsTooLong : Format → List AttrType → List Value → Type 0
 IsTooLong format types values = MOST_KEY_BYTES < length (written_row format types values)
 
 -- each line writes a row that a program can be sent
-pub record WriteRows (format : Format) (types : List AttrType) (lines : List (List Field)) (rows : List (List Value)) : Type 0 where
+pub record WriteRows (format : Format) (types : List AttrType) (lines : List (List Field)) (rows : List (List Value))
+    : Type 0 where
   pub read : AllZip (ReadsAs types) lines rows
   pub sent : All (CanBeSent format types) rows
 
 -- Why lines are refused that don't: the first one that writes no values, or else that the row of one is too long.
-pub data AreUnsent (format : Format) (types : List AttrType) (lines : List (List Field)) (unread : ℕ → ReplyFault) : ReplyFault → Type 0 where
+pub data AreUnsent (format : Format) (types : List AttrType) (lines : List (List Field)) (unread : ℕ → ReplyFault)
+    : ReplyFault → Type 0 where
   unread : {line : ℕ} → IsFirstWithout (HasValues types) lines line → AreUnsent format types lines unread (unread line)
   large : (rows : List (List Value)) → AllZip (ReadsAs types) lines rows → Any (IsTooLong format types) rows
       → AreUnsent format types lines unread fault.TooLarge

@@ -87,7 +87,8 @@ pub fn answer_function(alloc: Global, f: &FunctionDef, q: &Asked, values: &ListO
     requires call { IsCall q.now }
     requires sound { IsSoundFunction f.now }
     // There is one value for each row of arguments.
-    requires given { (rows : List (List ValueOf)) × AreArguments f.now q.now (Ok rows) × AreGiven f.now rows values.now }
+    requires given { (rows : List (List ValueOf)) × AreArguments f.now q.now (Ok rows)
+        × AreGiven f.now rows values.now }
     // Only want of memory may stand in place of the answer.
     ensures { UnlessNoMemory (Refused fault.NoMemory) result (AnswersCall f.now q.now values.now result) }
 {

@@ -120,7 +120,8 @@ struct FetchedOf<'a> {
 impl FetchedOf<'_> {
     /// The text of the attribute in a row that was fetched.
     fn cell_text(&self, alloc: Global, row: &Row) -> Result<Bytes, NoMemory>
-        requires of { IsFetchedOf self.now.d.now self.now.q.now self.now.attribute.now self.now.column.now self.now.cell }
+        requires of { IsFetchedOf self.now.d.now self.now.q.now self.now.attribute.now self.now.column.now
+            self.now.cell }
         requires fits { FitsReply self.now.d.now (Present row.now) }
         ensures { IfOk result (IsFetchedAttribute self.now.d.now self.now.q.now (Present row.now)) }
     {
@@ -137,7 +138,8 @@ impl FetchedOf<'_> {
 
     /// The text of the attribute in a row that may have been fetched, or of what stands in for it.
     fn text_of(&self, alloc: Global, row: &MaybeRow) -> Result<Bytes, NoMemory>
-        requires of { IsFetchedOf self.now.d.now self.now.q.now self.now.attribute.now self.now.column.now self.now.cell }
+        requires of { IsFetchedOf self.now.d.now self.now.q.now self.now.attribute.now self.now.column.now
+            self.now.cell }
         requires fits { FitsReply self.now.d.now row.now }
         ensures { IfOk result (IsFetchedAttribute self.now.d.now self.now.q.now row.now) }
     {
@@ -288,7 +290,8 @@ pub fn answer_keyed(alloc: Global, d: &Definition, q: &Asked, now: u64, rows: &F
     requires sound { IsSound d.now }
     requires keyed { IsTrue (is_keyed_layout d.now.layout) }
     // The rows are what a fetch promises for the keys of the lookup.
-    requires rows { (keys : List (List ValueOf)) × AreKeys d.now q.now (Ok keys) × AreFetched d.now keys rows.now }
+    requires rows { (keys : List (List ValueOf)) × AreKeys d.now q.now (Ok keys)
+        × AreFetched d.now keys rows.now }
     // Only want of memory may stand in place of the answer.
     ensures { UnlessNoMemory (Refused fault.NoMemory) result (AnswersKeyed d.now q.now now rows.now result) }
 {

@@ -16,6 +16,8 @@ mod lines;
 mod loaded;
 mod replies;
 mod sending;
+#[cfg(test)]
+mod tests;
 
 pub use calls::{answer_function, rows_of};
 pub use keyed::{answer_keyed, keys_of};
