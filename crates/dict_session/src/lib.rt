@@ -3,8 +3,9 @@
 //! [`Desk`] names the calls and what may be said of their answers: each is told as an act that leads from one state of
 //! the desk to the next, and each view afterwards begins with the one before. [`ask_of`] gives what a request asks for,
 //! the refusals that need no call included, and [`answer_request`] makes that call and gives the reply that follows from
-//! its answer; a lookup by key and a call of a function aren't built yet. A law says that acts which lead on from where others led keep what holds of
-//! both: the numbers that were seen never fall, and what was seen stands in the views at the end.
+//! its answer; a lookup by key and a call of a function aren't built yet. A law says that acts which lead on from where
+//! others led keep what holds of both: the numbers that were seen never fall, and what was seen stands in the views at
+//! the end.
 #![tactic(auto)]
 
 pub mod answer;
