@@ -12,13 +12,19 @@ mod answers;
 mod board;
 #[cfg(test)]
 mod board_tests;
+mod fault;
 pub mod laws;
+mod loader;
+mod loading;
+mod making;
 mod origin;
+mod reading;
 mod schedule;
 #[cfg(test)]
 mod schedule_tests;
 
 pub use answers::{LoadEnd, StatusRow};
 pub use board::{BoardAt, BoardState, KEPT_NOTES, LoadNote, NoteEnd, Posting};
+pub use loader::Loader;
 pub use origin::{Folder, OriginOf};
 pub use schedule::Schedule;

@@ -1,0 +1,31 @@
+use Rattle.std.proofs.Common.{◌≡◌, ◌∙◌, List, ap, arith, length, subst, sym}
+use Rattle.dict_schema.specs.Shapes.{cell_types, shape_of}
+use Rattle.dict_value.specs.declared.value.AttrType.{AttrType}
+use Rattle.overlay.proofs.OneOverlay.{overlay-types}
+use Rattle.overlay.specs.Overlays.{HaveTypes}
+use Rattle.loader.proofs.SoundLoads.{keys_shown, some_key, updated_layout}
+use Rattle.loader.specs.steps.Makings.{kept_in}
+use Rattle.loader.proofs.making.update.Goals as goal
+
+pub first_untaken-requires : goal.first_untaken-requires
+first_untaken-requires g c = updated_layout c.args.d.now c.requires.sound c.requires.update
+
+pub lay-requires-clause-keys : goal.lay-requires-clause-keys
+lay-requires-clause-keys g c =
+    let d = c.args.d.now in
+    let types : c.as_slice.result.now ≡ cell_types (shape_of d) = c.as_slice.ensures ∙ c.in_ok-types.ensures ∙ ap cell_types c.requires.shape in
+    let some = some_key d c.requires.sound in
+    let shown = keys_shown d c.requires.sound in
+    let long = ap length types in
+    (omega (arith, some, c.len.ensures), omega (arith, shown, c.len.ensures, long))
+
+pub copy_rows-requires-clause-fit : goal.copy_rows-requires-clause-fit
+copy_rows-requires-clause-fit g c =
+    let d = c.args.d.now in
+    let types : c.as_slice-2.result.now ≡ cell_types (shape_of d) = c.as_slice-2.ensures ∙ c.in_ok-types.ensures ∙ ap cell_types c.requires.shape in
+    subst (λ (ts : List AttrType). HaveTypes ts c.in_ok-rows.rows) (sym types)
+    (overlay-types (cell_types (shape_of d)) c.len.result (kept_in c.args.former.now) c.args.fresh.now c.in_ok-rows.rows c.requires.former.takes c.requires.takes c.in_ok-rows.ensures.laid)
+
+pub build-requires-clause-takes : goal.build-requires-clause-takes
+build-requires-clause-takes g c =
+    overlay-types (cell_types (shape_of c.args.d.now)) c.len.result (kept_in c.args.former.now) c.args.fresh.now c.in_ok-rows.rows c.requires.former.takes c.requires.takes c.in_ok-rows.ensures.laid
