@@ -29,8 +29,9 @@ use Rattle.loader.specs.declared.fault.LoadFault.{LoadFault}
 use Rattle.loader.specs.declared.fault.LoadFault.TheVariants.{Refused, NoMemory}
 use Rattle.loader.specs.declared.loading.Fresh.{Fresh}
 use Rattle.loader.specs.declared.making.Made.{Made}
+use Rattle.loader.specs.steps.Kept.{fault_end}
 use Rattle.loader.specs.steps.Makings.{GivesVersion, IsLoaded, RunsVersion, kept_in}
-use Rattle.loader.specs.steps.Publishings.{IsKept, IsLaidOver, PublishesAs, load_end_of, stamped}
+use Rattle.loader.specs.steps.Publishings.{IsKept, IsLaidOver, IsNewToken, PublishesAs, load_end_of, stamped}
 
 -- what is judged over the rows that are kept is judged over the list
 loads-over : (d : Definition) (list : List Contents) (former : RowList) (outcome : Outcome) (given : Result RowList Cause) → IsLaidOver (newest list) d former → Accepts d former outcome given → Loads d list outcome given
@@ -107,6 +108,15 @@ module _ (runs : Running) (same : Type 0) (ran : Ran) (d : Definition) (folder :
       core = core-whole before begun new [] load.NoMemory start reading core;
     };
   })
+
+  pub runs-ended : {C : Type 0} (T : Type 0) (f : LoadFault) → new ≡ core_after begun (end_events (fault_end f)) → IsLoaded {C = C} runs same ran d (asked_since d folder since) former (Err f) → RunsLoad runs d now folder list list before new (load_end_of {T = T} (Err f)) ⊎ StartsNone same d now list list before new (load_end_of {T = T} (Err f))
+  runs-ended T (Refused why) core h = inl (runs-refused why core h)
+  runs-ended T NoMemory core h = runs-out core h
+
+-- a token tells how long the list is
+pub told-count : {T : Type 0} (is_of : T → Type 0) (told_list : T → List Contents) (number_of : T → ℕ) (list : List Contents) (result : Result (Fresh T) LoadFault) → IfOk result (λ fresh. IsNewToken is_of told_list number_of list fresh.told fresh.number) → IfOk result (λ fresh. fresh.number ≡ length list)
+told-count is_of told_list number_of list (Ok fresh) h = h.count
+told-count is_of told_list number_of list (Err why) h = tt
 
 -- what is kept of a published version
 pub kept-of : (ran : Ran) (d : Definition) (words : List (List ℕ)) (former : RowList) (output : List ℕ) (ending : PieceEnd) (version : Contents) (kept : RowList) (now : ℕ) (list after : List Contents) → GivesVersion ran d words former output ending version kept → after ≡ list ++ stamped version now ∷ [] → IsKept d now after kept

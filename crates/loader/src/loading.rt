@@ -14,6 +14,7 @@ ghost use Rattle.loader.specs.Events.{core_after, end_events};
 ghost use Rattle.loader.specs.Loaders.{RunsLoad, RunsOne, StartsNone};
 ghost use Rattle.loader.specs.Origins.{HasOrigin, IsSince, asked_since, newest};
 ghost use Rattle.loader.specs.steps.Defaults.{ColumnsFit, NoBadDefault};
+ghost use Rattle.loader.specs.steps.Kept.{fault_end};
 ghost use Rattle.loader.specs.steps.Makings.{CanFollow, IsLoaded, kept_in};
 ghost use Rattle.loader.specs.steps.Publishings.{IsKept, IsLaidOver, IsNewToken, PublishesAs, load_end_of, stamped};
 
@@ -83,6 +84,16 @@ fn fail(core: &mut DictCore, cause: Cause)
 {
     core.step(DictEvent::Finish(Ending::Failed(cause)));
     core.step(DictEvent::Post);
+}
+
+/// Ends a load that has no version.
+fn end_for(core: &mut DictCore, fault: LoadFault)
+    ensures { core.new ≡ core_after core.old (end_events (fault_end fault)) }
+{
+    match fault {
+        LoadFault::Refused(cause) => fail(core, cause),
+        LoadFault::NoMemory => fail(core, Cause::NoMemory),
+    }
 }
 
 /// Publishes a version as of a moment.
@@ -156,13 +167,9 @@ pub(crate) fn run_load<C: Counter, S: Spawner, P: Publisher<V = Version<C>>>(
 {
     match load_version(alloc, spawner, d, folder, since, former, core) {
         Ok(made) => publish(alloc, publisher, made, now, core),
-        Err(LoadFault::Refused(cause)) => {
-            fail(core, cause);
-            Err(LoadFault::Refused(cause))
-        }
-        Err(LoadFault::NoMemory) => {
-            fail(core, Cause::NoMemory);
-            Err(LoadFault::NoMemory)
+        Err(fault) => {
+            end_for(core, fault);
+            Err(fault)
         }
     }
 }

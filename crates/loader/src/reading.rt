@@ -84,6 +84,26 @@ fn judge_status(
     read_rows(alloc, d, shape, gathered.bytes.as_slice())
 }
 
+/// What a child gives that printed this and had this exit.
+fn judge_exit(
+    alloc: Global,
+    d: &Definition,
+    shape: &Shape,
+    gathered: &Gathered,
+    exit: Exit,
+) -> Result<Rows, LoadFault>
+    requires shape { shape.now ≡ shape_of d.now }
+    requires few { gathered.now.lost ≡ false → length gathered.now.bytes ≤ 4294967295 }
+    requires columns { length shape.now ≤ 4294967295 }
+    requires defaults { HasFittingDefaults shape.now }
+    ensures { IsChildJudged d.now gathered.now (PieceEnd.Ended exit) result }
+{
+    match exit {
+        Exit::Killed => Err(LoadFault::Refused(Cause::Killed)),
+        Exit::Code(status) => judge_status(alloc, d, shape, gathered, status),
+    }
+}
+
 /// What a child gives that printed this and ended so.
 fn judge(
     alloc: Global,
@@ -107,8 +127,7 @@ fn judge(
         PieceEnd::TooLong => Err(LoadFault::Refused(Cause::Longer(d.max_output))),
         PieceEnd::WaitFailed => Err(LoadFault::Refused(Cause::Read)),
         PieceEnd::NoMemory => Err(LoadFault::NoMemory),
-        PieceEnd::Ended(Exit::Killed) => Err(LoadFault::Refused(Cause::Killed)),
-        PieceEnd::Ended(Exit::Code(status)) => judge_status(alloc, d, shape, gathered, status),
+        PieceEnd::Ended(exit) => judge_exit(alloc, d, shape, gathered, exit),
     }
 }
 

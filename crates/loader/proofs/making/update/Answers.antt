@@ -3,6 +3,10 @@ use Rattle.dict_schema.specs.Shapes.{cell_types, shape_of}
 use Rattle.dict_value.specs.declared.value.AttrType.{AttrType}
 use Rattle.overlay.proofs.OneOverlay.{overlay-types}
 use Rattle.overlay.specs.Overlays.{HaveTypes}
+use Rattle.dict_version.specs.Lookups.{lookup_by}
+use Rattle.dict_version.specs.Rows.{LayoutTakesBy}
+use Rattle.loader.proofs.Givings.{taken-refused}
+use Rattle.loader.proofs.RowsTaken.{overlay-taken}
 use Rattle.loader.proofs.SoundLoads.{keys_shown, some_key, updated_layout}
 use Rattle.loader.specs.steps.Makings.{kept_in}
 use Rattle.loader.proofs.making.update.Goals as goal
@@ -29,3 +33,10 @@ copy_rows-requires-clause-fit g c =
 pub build-requires-clause-takes : goal.build-requires-clause-takes
 build-requires-clause-takes g c =
     overlay-types (cell_types (shape_of c.args.d.now)) c.len.result (kept_in c.args.former.now) c.args.fresh.now c.in_ok-rows.rows c.requires.former.takes c.requires.takes c.in_ok-rows.ensures.laid
+
+pub returns-in_err-version : goal.returns-in_err-version
+returns-in_err-version g c =
+    let d = c.args.d.now in
+    let fresh_taken : LayoutTakesBy (lookup_by d.layout) c.args.fresh.now = cc in
+    let taken = overlay-taken (lookup_by d.layout) c.len.result (kept_in c.args.former.now) c.args.fresh.now c.in_ok-rows.rows c.in_ok-rows.ensures.laid c.requires.former.taken fresh_taken in
+    taken-refused d (kept_in c.args.former.now) c.args.fresh.now c.in_ok-rows.rows c.in_err-version.field-0 taken c.in_err-version.ensures
