@@ -55,20 +55,20 @@ none-refused by.Address rows refusal.NoMemory taken h = h
 none-refused by.Nothing rows why taken h = h
 
 -- so what refuses them is want of memory alone
-pub taken-refused : {C : Type 0} (d : Definition) (former fresh rows : RowList) (fault : LoadFault) → LayoutTakes d rows → IsBuilt d rows (Err fault) → IsMade {C = C} d former fresh (Err fault)
-taken-refused d former fresh rows (Refused cause.Start) taken h = absurd h
-taken-refused d former fresh rows (Refused cause.Read) taken h = absurd h
-taken-refused d former fresh rows (Refused cause.TimedOut) taken h = absurd h
-taken-refused d former fresh rows (Refused (cause.Status status)) taken h = absurd h
-taken-refused d former fresh rows (Refused cause.Killed) taken h = absurd h
-taken-refused d former fresh rows (Refused (cause.Longer limit)) taken h = absurd h
-taken-refused d former fresh rows (Refused cause.Rows) taken h = absurd h
-taken-refused d former fresh rows (Refused (cause.Row bad)) taken h = absurd h
-taken-refused d former fresh rows (Refused (cause.Key number)) taken h = absurd (none-refused (lookup_by d.layout) rows (refusal.KeyTooLarge number) taken h)
-taken-refused d former fresh rows (Refused (cause.Prefix row)) taken h = absurd (none-refused (lookup_by d.layout) rows (refusal.BadPrefix row) taken h)
-taken-refused d former fresh rows (Refused cause.Spent) taken h = absurd h
-taken-refused d former fresh rows (Refused cause.NoMemory) taken h = absurd h
-taken-refused d former fresh rows NoMemory taken h = tt
+pub taken-refused : (C : Type 0) (d : Definition) (former fresh rows : RowList) (fault : LoadFault) → LayoutTakes d rows → IsBuilt d rows (Err fault) → IsMade {C = C} d former fresh (Err fault)
+taken-refused C d former fresh rows (Refused cause.Start) taken h = absurd h
+taken-refused C d former fresh rows (Refused cause.Read) taken h = absurd h
+taken-refused C d former fresh rows (Refused cause.TimedOut) taken h = absurd h
+taken-refused C d former fresh rows (Refused (cause.Status status)) taken h = absurd h
+taken-refused C d former fresh rows (Refused cause.Killed) taken h = absurd h
+taken-refused C d former fresh rows (Refused (cause.Longer limit)) taken h = absurd h
+taken-refused C d former fresh rows (Refused cause.Rows) taken h = absurd h
+taken-refused C d former fresh rows (Refused (cause.Row bad)) taken h = absurd h
+taken-refused C d former fresh rows (Refused (cause.Key number)) taken h = absurd (none-refused (lookup_by d.layout) rows (refusal.KeyTooLarge number) taken h)
+taken-refused C d former fresh rows (Refused (cause.Prefix row)) taken h = absurd (none-refused (lookup_by d.layout) rows (refusal.BadPrefix row) taken h)
+taken-refused C d former fresh rows (Refused cause.Spent) taken h = absurd h
+taken-refused C d former fresh rows (Refused cause.NoMemory) taken h = absurd h
+taken-refused C d former fresh rows NoMemory taken h = tt
 
 -- ---- the child's output and what is made of its rows
 

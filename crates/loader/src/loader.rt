@@ -14,7 +14,7 @@ ghost use Rattle.load_core.specs.declared.dictionary.Phase.TheVariants.{Idle, Re
 ghost use Rattle.version_slot.specs.Views.{KeepsTokens};
 ghost use Rattle.loader.specs.Loaders.{IsAt, IsLoad, RunsLoad, RunsOne, StartsNone, new_loader};
 ghost use Rattle.loader.specs.Origins.{HasOrigin};
-ghost use Rattle.loader.specs.Timing.{IsDue};
+ghost use Rattle.loader.specs.Timing.{IsDue, after_failure};
 ghost use Rattle.loader.specs.declared.board.Posting.{Posting as PostingOf};
 ghost use Rattle.loader.specs.declared.board.Posting.TheVariants as post;
 ghost use Rattle.loader.specs.steps.Kept.{IsOther, after_version, posted_cause, definition_by, fault_end};
@@ -144,6 +144,34 @@ impl Loader {
         ensures { IsTrue result ↔ (d.now ≡ self.now.definition) }
     {
         same_definition(d, &self.definition)
+    }
+
+    /// The counts, as they stand between two loads.
+    fn counts(&self) -> DictCore
+        ensures core { result ≡ self.now.core }
+        ensures idle { result.phase ≡ Idle }
+        ensures fewer { result.published ≤ result.loads }
+    {
+        self.core
+    }
+
+    /// What follows where the loads are used up: the wait after a failure.
+    fn put_off(&mut self, now: u64)
+        requires { now ≤ LAST_MOMENT }
+        ensures { self.new ≡ record self.old { timing = after_failure self.old.timing now } }
+    {
+        self.schedule.after_failure(now);
+    }
+
+    /// What follows a load that published nothing.
+    fn leave(&mut self, core: DictCore, now: u64)
+        requires idle { core.phase ≡ Idle }
+        requires fewer { core.published ≤ core.loads }
+        requires moment { now ≤ LAST_MOMENT }
+        ensures { self.new ≡ record self.old { core = core; timing = after_failure self.old.timing now } }
+    {
+        self.schedule.after_failure(now);
+        self.core = core;
     }
 
     /// What follows a load with the current definition that published: its moment, and the rows that are kept.
@@ -287,11 +315,11 @@ impl Loader {
         ensures tokens { KeepsTokens P.is_of P.told_list publisher.old publisher.new }
         ensures slot { P.slot publisher.new ≡ P.slot publisher.old }
     {
-        let mut core = self.core;
+        let mut core = self.counts();
         match core.step(DictEvent::Start) {
             DictEffect::Begun(_) => {}
             _ => {
-                self.schedule.after_failure(now);
+                self.put_off(now);
                 return post_failure(board, Cause::Spent, now);
             }
         }
@@ -303,8 +331,7 @@ impl Loader {
                 post_version(board, told, number, now)
             }
             Err(fault) => {
-                self.core = core;
-                self.schedule.after_failure(now);
+                self.leave(core, now);
                 post_fault(board, fault, now)
             }
         }

@@ -1,5 +1,5 @@
 // The child of a load: it is started, read to its end, and judged.
-ghost use Rattle.std.specs.Prelude.{◌≡◌, ◌≢◌, ◌≤◌, [], false, length, IsErrOf};
+ghost use Rattle.std.specs.Prelude.{◌≡◌, ◌≢◌, ◌≤◌, [], false, length, pos, IsErrOf};
 ghost use Rattle.dict_io.specs.Outside.{HasCause};
 ghost use Rattle.dict_schema.specs.Shapes.{shape_of};
 ghost use Rattle.load_core.specs.declared.dictionary.Phase.TheVariants.{Reading};
@@ -61,23 +61,19 @@ fn read_rows(
     }
 }
 
-/// What a child gives that printed this and ended with this status.
-fn judge_status(
+/// What a child gives that printed this and ended with status 0.
+fn judge_output(
     alloc: Global,
     d: &Definition,
     shape: &Shape,
     gathered: &Gathered,
-    status: i32,
 ) -> Result<Rows, LoadFault>
     requires shape { shape.now ≡ shape_of d.now }
     requires few { gathered.now.lost ≡ false → length gathered.now.bytes ≤ 4294967295 }
     requires columns { length shape.now ≤ 4294967295 }
     requires defaults { HasFittingDefaults shape.now }
-    ensures { IsChildJudged d.now gathered.now (PieceEnd.Ended (Exit.Code status)) result }
+    ensures { IsChildJudged d.now gathered.now (PieceEnd.Ended (Exit.Code (pos 0))) result }
 {
-    if status != 0 {
-        return Err(LoadFault::Refused(Cause::Status(status)));
-    }
     if gathered.lost {
         return Err(LoadFault::NoMemory);
     }
@@ -100,7 +96,12 @@ fn judge_exit(
 {
     match exit {
         Exit::Killed => Err(LoadFault::Refused(Cause::Killed)),
-        Exit::Code(status) => judge_status(alloc, d, shape, gathered, status),
+        Exit::Code(status) => {
+            if status != 0 {
+                return Err(LoadFault::Refused(Cause::Status(status)));
+            }
+            judge_output(alloc, d, shape, gathered)
+        }
     }
 }
 

@@ -19,4 +19,4 @@ returns-in-Err-clause-run g c = λ before start.
     let same = c.load_version.new.spawner ≡ c.args.spawner.now in
     let core = c.end_for.ensures ∙ ap (λ (k : DictCore). core_after k (end_events (fault_end c.in-Err.fault))) c.in-Err.ensures.core in
     runs-ended _ same g.S.Spawner.ran c.args.d.now c.args.folder.now c.args.since _ (kept_in c.args.former.now) c.args.now c.requires.since c.requires.laid before c.args.core.now c.end_for.new.core start c.requires.reading
-    _ c.in-Err.fault core c.in-Err.ensures.loaded
+    g.row.P-Told.Denot c.in-Err.fault core c.in-Err.ensures.loaded

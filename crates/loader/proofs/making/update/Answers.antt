@@ -1,10 +1,12 @@
-use Rattle.std.proofs.Common.{◌≡◌, ◌∙◌, List, ap, arith, length, subst, sym}
+use Rattle.std.proofs.Common.{◌≡◌, ◌∙◌, ℕ, List, None, Option, ap, arith, length, rules, subst, sym}
+use Rattle.std.specs.Prelude.{MatchOption}
 use Rattle.dict_schema.specs.Shapes.{cell_types, shape_of}
 use Rattle.dict_value.specs.declared.value.AttrType.{AttrType}
 use Rattle.overlay.proofs.OneOverlay.{overlay-types}
 use Rattle.overlay.specs.Overlays.{HaveTypes}
 use Rattle.dict_version.specs.Lookups.{lookup_by}
-use Rattle.dict_version.specs.Rows.{LayoutTakesBy}
+use Rattle.dict_version.specs.Rows.{IsRefusedBy, LayoutTakesBy}
+use Rattle.dict_version.specs.declared.fault.LayoutFault.TheVariants as refusal
 use Rattle.loader.proofs.Givings.{taken-refused}
 use Rattle.loader.proofs.RowsTaken.{overlay-taken}
 use Rattle.loader.proofs.SoundLoads.{keys_shown, some_key, updated_layout}
@@ -37,6 +39,8 @@ build-requires-clause-takes g c =
 pub returns-in_err-version : goal.returns-in_err-version
 returns-in_err-version g c =
     let d = c.args.d.now in
-    let fresh_taken : LayoutTakesBy (lookup_by d.layout) c.args.fresh.now = cc in
+    let none : c.first_untaken.result ≡ None = search rules in
+    let fresh_taken : LayoutTakesBy (lookup_by d.layout) c.args.fresh.now =
+        subst (λ (o : Option ℕ). MatchOption o (LayoutTakesBy (lookup_by d.layout) c.args.fresh.now) (λ key. IsRefusedBy (lookup_by d.layout) c.args.fresh.now (refusal.KeyTooLarge key))) none c.first_untaken.ensures in
     let taken = overlay-taken (lookup_by d.layout) c.len.result (kept_in c.args.former.now) c.args.fresh.now c.in_ok-rows.rows c.in_ok-rows.ensures.laid c.requires.former.taken fresh_taken in
-    taken-refused d (kept_in c.args.former.now) c.args.fresh.now c.in_ok-rows.rows c.in_err-version.field-0 taken c.in_err-version.ensures
+    taken-refused _ d (kept_in c.args.former.now) c.args.fresh.now c.in_ok-rows.rows c.in_err-version.field-0.0 taken c.in_err-version.ensures
