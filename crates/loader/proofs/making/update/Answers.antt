@@ -1,5 +1,6 @@
 use Rattle.std.proofs.Common.{◌≡◌, ◌∙◌, ℕ, List, None, Option, ap, arith, length, rules, subst, sym}
 use Rattle.std.specs.Prelude.{MatchOption}
+use Rattle.std.proofs.lemmas.Result.{err_from_is_err_and}
 use Rattle.dict_schema.specs.Shapes.{cell_types, shape_of}
 use Rattle.dict_value.specs.declared.value.AttrType.{AttrType}
 use Rattle.overlay.proofs.OneOverlay.{overlay-types}
@@ -43,4 +44,5 @@ returns-in_err-version g c =
     let fresh_taken : LayoutTakesBy (lookup_by d.layout) c.args.fresh.now =
         subst (λ (o : Option ℕ). MatchOption o (LayoutTakesBy (lookup_by d.layout) c.args.fresh.now) (λ key. IsRefusedBy (lookup_by d.layout) c.args.fresh.now (refusal.KeyTooLarge key))) none c.first_untaken.ensures in
     let taken = overlay-taken (lookup_by d.layout) c.len.result (kept_in c.args.former.now) c.args.fresh.now c.in_ok-rows.rows c.in_ok-rows.ensures.laid c.requires.former.taken fresh_taken in
-    taken-refused _ d (kept_in c.args.former.now) c.args.fresh.now c.in_ok-rows.rows c.in_err-version.field-0.0 taken c.in_err-version.ensures
+    let p = err_from_is_err_and c.from_residual-in_err-version.result c.from_residual-in_err-version.ensures.1 in
+    rw (p.1, p.2) (taken-refused _ d (kept_in c.args.former.now) c.args.fresh.now c.in_ok-rows.rows c.in_err-version.field-0.0 taken c.in_err-version.ensures)
