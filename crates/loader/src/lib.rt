@@ -1,5 +1,8 @@
 //! Loads of fully loaded dictionaries: what each comes to, what is told of them, and when they are due.
 //!
+//! A [`Loader`] loads one dictionary: each load starts at most one child, and publishes what that gives or says why it
+//! gives nothing, and posts its begin and its end.
+//!
 //! It says what a load comes to, by its definition, the former rows and its child's outcome, where the entries of a
 //! slot of versions come from, and what a loader keeps; [`laws`] tie that to the world of the pure machine. It promises
 //! that a [`BoardState`] tells the counts, the state and the last cause of the loads that were posted, has the last 64
