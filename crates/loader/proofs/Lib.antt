@@ -1,3 +1,15 @@
+pub mod Accepting
+pub mod CoreEnds
 pub mod CoreRuns
+pub mod Givings
+pub mod Judging
+pub mod LargeKeys
+pub mod Lifetimes
+pub mod LoadRuns
+pub mod Newest
+pub mod OneLoad
+pub mod RowsTaken
+pub mod SoundLoads
+pub mod WholeLoads
 pub mod WorldJudge
 pub mod WorldRuns

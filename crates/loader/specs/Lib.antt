@@ -6,3 +6,4 @@ pub mod Loaders
 pub mod Origins
 pub mod Timing
 pub mod Worlds
+pub mod steps

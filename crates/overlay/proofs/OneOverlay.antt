@@ -1,6 +1,6 @@
 -- What stands is one list, of the rows' types and with one row for each key.
 use Rattle.std.proofs.Common.{◌≡◌, ◌≢◌, ◌<◌, ◌⊎◌, ◌++◌, ℕ, zero, suc, List, [], ◌∷◌, map, take, Some, Contains, refl, sym, ◌∙◌, ap, subst, inl, inr, arith, get_or, slice_get, option_map}
-use Rattle.std.specs.List.{AllPairs, AllZip}
+use Rattle.std.specs.List.{All, AllPairs, AllZip}
 use Rattle.std.proofs.lemmas.List.Elements.{All-append}
 use Rattle.std.proofs.lemmas.Option.{none-some, same_Some, slice_get_within, slice_get-get_or, slice_get-map, get_or_from_slice_get}
 use Rattle.dict_value.specs.Values.{FitsColumn}
@@ -78,13 +78,18 @@ stood rows (place ∷ places) (r ∷ standing) zero row e at = record { place = 
 stood rows (place ∷ places) (r ∷ standing) (suc k) row e at =
     let s = stood rows places standing k row (cc) at in record { place = s.place; place_at = s.place_at; row_at = s.row_at }
 
-pub overlay-types : (types : List AttrType) (keys : ℕ) (former new standing : RowList) → HaveTypes types former → HaveTypes types new → Overlay keys former new standing → HaveTypes types standing
-overlay-types types keys former new standing have fresh o k d l =
+-- what holds of each row of both holds of each that stands
+pub overlay-all : (P : List Value → Type 0) (keys : ℕ) (former new standing : RowList) → All P former → All P new → Overlay keys former new standing → All P standing
+overlay-all P keys former new standing have fresh o k d l =
     let rows = new ++ former in
     let row = get_or standing k d in
     let s = stood rows o.places standing k row o.stand (slice_get-get_or standing k d l) in
-    subst (AllZip FitsColumn types) (get_or_from_slice_get rows s.place row row s.row_at)
-    (All-append (AllZip FitsColumn types) new former fresh have s.place row (slice_get_within rows s.place row s.row_at))
+    subst P (get_or_from_slice_get rows s.place row row s.row_at)
+    (All-append P new former fresh have s.place row (slice_get_within rows s.place row s.row_at))
+
+pub overlay-types : (types : List AttrType) (keys : ℕ) (former new standing : RowList) → HaveTypes types former → HaveTypes types new → Overlay keys former new standing → HaveTypes types standing
+overlay-types types keys former new standing have fresh o =
+    overlay-all (AllZip FitsColumn types) keys former new standing have fresh o
 
 pub overlay-apart : (keys : ℕ) (former new standing : RowList) → Overlay keys former new standing → AllPairs (λ row later. take keys row ≢ take keys later) standing
 overlay-apart keys former new standing o i j d less l same =

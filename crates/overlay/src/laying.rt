@@ -89,6 +89,20 @@ fn push_former(
     Ok(())
 }
 
+/// The same rows once more. They have values of these types, and there are at most `MOST_ROWS` of them.
+pub fn copy_rows(alloc: Global, types: &[AttrType], rows: &Rows) -> Result<Rows, NoMemory>
+    requires fit { HaveTypes types.now rows.now }
+    requires few { length rows.now ≤ MOST_ROWS }
+    ensures { IfOk result (λ copy. copy ≡ rows.now) }
+{
+    let text = rows.stored(&[]) as usize;
+    let mut out = RowsBuilder::with_room(alloc, types, rows.len(), text)?;
+    for place in 0..rows.len() {
+        push_row(&mut out, types, rows, place)?;
+    }
+    Ok(out.finish())
+}
+
 /// Lays fresh rows over the former ones: of the fresh rows followed by the former ones, those whose key,
 /// their first `keys` values, has no earlier row there. All rows have values of these types, and neither
 /// list has more than `MOST_ROWS` of them.

@@ -1,8 +1,8 @@
 //! Rows that are laid over former ones, by their keys.
 //!
 //! It promises that [`overlay`] gives, of the new rows followed by the former ones, those whose key has
-//! no earlier row there, in their order, and that this is one list ([`laws`]). A key is found through a
-//! table.
+//! no earlier row there, in their order, and that this is one list ([`laws`]); a key is found through a
+//! table. [`copy_rows`] gives the rows that it is handed.
 #![tactic(auto)]
 
 mod keys;
@@ -11,4 +11,4 @@ mod laying;
 #[cfg(test)]
 mod tests;
 
-pub use laying::overlay;
+pub use laying::{copy_rows, overlay};

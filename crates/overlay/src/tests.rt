@@ -8,7 +8,7 @@ ghost use Rattle.overlay.specs.Overlays.{HaveTypes};
 ghost use Rattle.overlay.specs.steps.Standing.{IsBetween};
 
 use crate::laws::one_overlay;
-use crate::overlay;
+use crate::{copy_rows, overlay};
 use dict_value::{AttrType, ColType, MOST_ROWS, NoMemory};
 use packed_rows::{Cell, Rows, RowsBuilder};
 use std::alloc::Global;
@@ -161,6 +161,8 @@ fn many_rows_are_laid_over_many(rt: HostRuntime) -> Result<(), Fail> {
     let former = numbered(alloc, 0, 50_000)?;
     let fresh = numbered(alloc, 40_000, 50_000)?;
     let standing = overlay(alloc, &TYPES, 1, &former, &fresh)?;
+    let copy = copy_rows(alloc, &TYPES, &fresh)?;
+    assert_eq!(rt; (copy.len(), copy.get(7, 0)), (50_000, Some(Cell::U(40_007))));
     assert_eq!(rt; standing.len(), 90_000);
     assert_eq!(rt; standing.get(0, 0), Some(Cell::U(40_000)));
     assert_eq!(rt; standing.get(50_000, 0), Some(Cell::U(0)));
