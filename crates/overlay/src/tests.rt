@@ -162,7 +162,10 @@ fn many_rows_are_laid_over_many(rt: HostRuntime) -> Result<(), Fail> {
     let fresh = numbered(alloc, 40_000, 50_000)?;
     let standing = overlay(alloc, &TYPES, 1, &former, &fresh)?;
     let copy = copy_rows(alloc, &TYPES, &fresh)?;
-    assert_eq!(rt; (copy.len(), copy.get(7, 0)), (50_000, Some(Cell::U(40_007))));
+    assert_eq!(rt;
+        (copy.len(), copy.get(7, 0)),
+        (50_000, Some(Cell::U(40_007)))
+    );
     assert_eq!(rt; standing.len(), 90_000);
     assert_eq!(rt; standing.get(0, 0), Some(Cell::U(40_000)));
     assert_eq!(rt; standing.get(50_000, 0), Some(Cell::U(0)));
