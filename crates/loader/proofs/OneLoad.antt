@@ -194,11 +194,11 @@ ended-at runs same d now folder list after old counted started core effect numbe
 pub load-spent : {T : Type 0} (runs : Running) (same : Type 0) (is_told : T → Type 0) (posts : List (Posting T) → Type 0) (d : Definition) (now : ℕ) (old new : LoaderState) (list : List Contents) (begun : DictCore) (end : LoadEnd) → end ≡ load.Failed cause.Spent → IsUsedUp old.core begun → same → IsAt old list → new ≡ record old { timing = after_failure old.timing now } → posts (post.Failed cause.Spent now ∷ []) → IsLoad runs same is_told posts d now end old new list list
 load-spent runs same is_told posts d now old new list begun end ends used none at is posted =
     subst (λ (e : LoadEnd). IsLoad runs same is_told posts d now e old new list list) (sym ends) (record {
-  run = λ few. absurd (omega (arith, few, used.many));
-  spent = λ many. record { none = none; ended = refl; list_left = refl; core_left = ap (λ (l : LoaderState). l.core) is };
-  state = subst (λ (l : LoaderState). IsAfter d now (load.Failed cause.Spent) old l) (sym is) refl;
-  stands = subst (λ (l : LoaderState). IsAt l list) (sym is) (stands-left old old.core (after_failure old.timing now) list list at refl refl);
-  postings = post.Failed cause.Spent now ∷ [];
-  are_postings = refl;
-  posted = posted;
-})
+      run = λ few. absurd (omega (arith, few, used.many));
+      spent = λ many. record { none = none; ended = refl; list_left = refl; core_left = ap (λ (l : LoaderState). l.core) is };
+      state = subst (λ (l : LoaderState). IsAfter d now (load.Failed cause.Spent) old l) (sym is) refl;
+      stands = subst (λ (l : LoaderState). IsAt l list) (sym is) (stands-left old old.core (after_failure old.timing now) list list at refl refl);
+      postings = post.Failed cause.Spent now ∷ [];
+      are_postings = refl;
+      posted = posted;
+    })

@@ -206,13 +206,7 @@ impl Loader {
     }
 
     /// What follows a load that published.
-    fn follow(
-        &mut self,
-        other: Option<Definition>,
-        kept: Option<Rows>,
-        core: DictCore,
-        now: u64,
-    )
+    fn follow(&mut self, other: Option<Definition>, kept: Option<Rows>, core: DictCore, now: u64)
         requires other { ForSome other (IsOther self.old.definition) }
         requires kept { CanFollow (definition_by other self.old.definition) (kept_in kept) }
         requires idle { core.phase ≡ Idle }

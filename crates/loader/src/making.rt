@@ -148,13 +148,7 @@ fn update<C: Counter>(
         return Err(LoadFault::Refused(Cause::Key(key)));
     }
     let types = types_of(alloc, shape)?;
-    let rows = lay(
-        alloc,
-        types.as_slice(),
-        d.keys.len() as u32,
-        former,
-        fresh,
-    )?;
+    let rows = lay(alloc, types.as_slice(), d.keys.len() as u32, former, fresh)?;
     let kept = copy_rows(alloc, types.as_slice(), &rows)?;
     let version = build(alloc, d, rows)?;
     Ok(Made {

@@ -41,12 +41,7 @@ impl Pieces for LoadPieces {
 }
 
 /// The rows of a whole output.
-fn read_rows(
-    alloc: Global,
-    d: &Definition,
-    shape: &Shape,
-    output: &[u8],
-) -> Result<Rows, LoadFault>
+fn read_rows(alloc: Global, d: &Definition, shape: &Shape, output: &[u8]) -> Result<Rows, LoadFault>
     requires shape { shape.now ≡ shape_of d.now }
     requires few { length output.now ≤ 4294967295 }
     requires columns { length shape.now ≤ 4294967295 }

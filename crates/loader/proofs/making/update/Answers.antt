@@ -42,7 +42,7 @@ returns-in_err-version g c =
     let d = c.args.d.now in
     let none : c.first_untaken.result ≡ None = search rules in
     let fresh_taken : LayoutTakesBy (lookup_by d.layout) c.args.fresh.now =
-        subst (λ (o : Option ℕ). MatchOption o (LayoutTakesBy (lookup_by d.layout) c.args.fresh.now) (λ key. IsRefusedBy (lookup_by d.layout) c.args.fresh.now (refusal.KeyTooLarge key))) none c.first_untaken.ensures in
+    subst (λ (o : Option ℕ). MatchOption o (LayoutTakesBy (lookup_by d.layout) c.args.fresh.now) (λ key. IsRefusedBy (lookup_by d.layout) c.args.fresh.now (refusal.KeyTooLarge key))) none c.first_untaken.ensures in
     let taken = overlay-taken (lookup_by d.layout) c.len.result (kept_in c.args.former.now) c.args.fresh.now c.in_ok-rows.rows c.in_ok-rows.ensures.laid c.requires.former.taken fresh_taken in
     let p = err_from_is_err_and c.from_residual-in_err-version.result c.from_residual-in_err-version.ensures.1 in
     rw (p.1, p.2) (taken-refused ℕ d (kept_in c.args.former.now) c.args.fresh.now c.in_ok-rows.rows c.in_err-version.field-0.0 taken c.in_err-version.ensures)
