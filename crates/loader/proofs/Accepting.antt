@@ -1,5 +1,5 @@
 -- What a load is judged to give doesn't rest on former rows that aren't kept.
-use Rattle.std.proofs.Common.{◌≡◌, ◌∙◌, ℕ, zero, suc, List, [], length, Result, Ok, Err, refl, sym, ap, subst}
+use Rattle.std.proofs.Common.{◌≡◌, ℕ, zero, suc, List, length, Result, Ok, Err, refl, subst}
 use Rattle.std.specs.Prelude.{ℤ, pos, negsuc, true, false}
 use Rattle.child_io.specs.Gathers.{outcome_of}
 use Rattle.child_io.specs.declared.child.Outcome.{Outcome}

@@ -1,6 +1,6 @@
 -- A core after a whole load: none runs any more, and its versions are counted.
-use Rattle.std.proofs.Common.{◌≡◌, ◌<◌, ◌≤◌, ◌+◌, ◌∙◌, ◌∷◌, ◌++◌, [], ℕ, List, arith, ap, sym}
-use Rattle.load_core.specs.DictSteps.{DictStepped, most_loads, risen, row, stepped}
+use Rattle.std.proofs.Common.{◌≡◌, ◌≤◌, ◌+◌, ◌∙◌, ◌∷◌, ◌++◌, [], ℕ, List, arith, ap, sym}
+use Rattle.load_core.specs.DictSteps.{DictStepped, risen, row, stepped}
 use Rattle.load_core.specs.declared.dictionary.DictCore.{DictCore}
 use Rattle.load_core.specs.declared.dictionary.DictEvent.{DictEvent}
 use Rattle.load_core.specs.declared.dictionary.DictEvent.TheVariants.{Finish, Publish, Post, Start}

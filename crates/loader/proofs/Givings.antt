@@ -1,16 +1,13 @@
 -- What a child gives, put together: the version of its rows, or why there is none.
-use Rattle.std.proofs.Common.{◌≡◌, ◌<◌, ◌≤◌, ◌∙◌, ◌⊎◌, [], ℕ, List, Result, Ok, Err, length, refl, sym, ap, subst, inl, inr, arith}
-use Rattle.std.specs.Prelude.{All, IsSome, pos}
+use Rattle.std.proofs.Common.{◌≡◌, ◌<◌, ℕ, List, Result, Ok, Err, sym, subst, inl, inr, arith}
+use Rattle.std.specs.Prelude.{All, IsSome}
 use Rattle.std.specs.List.{concat}
 use Rattle.std.proofs.lemmas.Option.{get_or_from_slice_get, slice_get_within}
 use Rattle.child_io.specs.Gathers.{outcome_of}
 use Rattle.child_io.specs.declared.pieces.PieceEnd.{PieceEnd}
-use Rattle.child_io.specs.declared.pieces.PieceEnd.TheVariants.{Ended}
 use Rattle.dict_schema.specs.declared.definition.Definition.{Definition}
 use Rattle.dict_value.specs.Addresses.{prefix_in}
-use Rattle.dict_value.specs.declared.fault.Cause.{Cause}
 use Rattle.dict_value.specs.declared.fault.Cause.TheVariants as cause
-use Rattle.dict_value.specs.declared.fault.Exit.TheVariants.{Code}
 use Rattle.dict_version.specs.Keys.{texts_of, numbers_of}
 use Rattle.dict_version.specs.Lookups.{lookup_by}
 use Rattle.dict_version.specs.Rows.{IsRefusedBy, LayoutTakes, LayoutTakesBy}
@@ -20,7 +17,7 @@ use Rattle.dict_version.specs.declared.lookup.LookupBy.{LookupBy}
 use Rattle.dict_version.specs.declared.lookup.LookupBy.TheVariants as by
 use Rattle.flat_layout.specs.Cells.{IsFirstTooLarge}
 use Rattle.packed_rows.specs.Columns.{RowList}
-use Rattle.loader.specs.Accepts.{Accepts, DecodesTo, IsUntaken, LaysTooLarge, Refuses, too_large, untaken}
+use Rattle.loader.specs.Accepts.{Accepts, too_large, untaken}
 use Rattle.loader.specs.Loaders.{Running}
 use Rattle.loader.specs.Origins.{Ran}
 use Rattle.loader.specs.declared.fault.LoadFault.{LoadFault}

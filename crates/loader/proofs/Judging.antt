@@ -1,5 +1,5 @@
 -- What a child's output and end are judged to give.
-use Rattle.std.proofs.Common.{◌≡◌, ◌≢◌, ◌≤◌, ℕ, List, [], Result, Ok, Err, length, arith, refl, sym, ap, subst}
+use Rattle.std.proofs.Common.{◌≡◌, ◌≤◌, ℕ, List, [], Result, Ok, Err, length, arith, refl, sym, ap, subst}
 use Rattle.std.specs.Prelude.{ℤ, IsErrOf, false, pos}
 use Rattle.std.specs.List.{concat}
 use Rattle.child_io.specs.Gathers.{Gathers, outcome_of}
@@ -9,7 +9,6 @@ use Rattle.child_io.specs.declared.pieces.PieceEnd.{PieceEnd}
 use Rattle.child_io.specs.declared.pieces.PieceEnd.TheVariants.{NotStarted, Ended}
 use Rattle.dict_io.specs.Outside.{HasCause}
 use Rattle.dict_schema.specs.declared.definition.Definition.{Definition}
-use Rattle.dict_value.specs.declared.fault.Cause.{Cause}
 use Rattle.dict_value.specs.declared.fault.Cause.TheVariants as cause
 use Rattle.dict_value.specs.declared.fault.Exit.TheVariants.{Code}
 use Rattle.packed_rows.specs.Columns.{RowList}

@@ -11,7 +11,7 @@ use Rattle.child_io.specs.declared.words.Since.{Since}
 use Rattle.dict_schema.specs.declared.definition.Definition.{Definition}
 use Rattle.dict_value.specs.declared.fault.Cause.{Cause}
 use Rattle.dict_value.specs.declared.fault.Exit.TheVariants.{Code}
-use Rattle.dict_version.specs.Contents.{Contents, contents}
+use Rattle.dict_version.specs.Contents.{Contents}
 use Rattle.load_core.specs.DictSteps.{stepped}
 use Rattle.load_core.specs.declared.dictionary.DictCore.{DictCore}
 use Rattle.load_core.specs.declared.dictionary.DictEvent.TheVariants.{Start}
@@ -21,7 +21,7 @@ use Rattle.loader.proofs.Accepting.{accepts-kept}
 use Rattle.loader.proofs.CoreRuns.{past-pieces}
 use Rattle.loader.specs.Accepts.{Accepts}
 use Rattle.loader.specs.Events.{core_after, end_events, load_events, piece_events}
-use Rattle.loader.specs.Loaders.{EndsLoad, Running, RunsLoad, StartsNone, version_of}
+use Rattle.loader.specs.Loaders.{EndsLoad, Running, RunsLoad, StartsNone}
 use Rattle.loader.specs.Origins.{HasOrigin, IsSince, Loads, Ran, asked_since, newest}
 use Rattle.loader.specs.declared.answers.LoadEnd.{LoadEnd}
 use Rattle.loader.specs.declared.answers.LoadEnd.TheVariants as load

@@ -1,5 +1,5 @@
 -- What a loader that stands at a list asks for, and lays its rows over.
-use Rattle.std.proofs.Common.{◌≡◌, ◌≢◌, ◌∙◌, ◌+◌, ◌∷◌, ◌++◌, [], ℕ, suc, List, Option, Some, None, length, refl, sym, ap, subst, arith, slice_get}
+use Rattle.std.proofs.Common.{◌≡◌, ◌≢◌, ◌∙◌, ◌∷◌, ◌++◌, [], ℕ, suc, List, Option, Some, None, length, refl, sym, ap, subst, arith, slice_get}
 use Rattle.std.proofs.lemmas.List.{length_push}
 use Rattle.child_io.specs.declared.words.Since.TheVariants.{Whole}
 use Rattle.dict_schema.specs.declared.definition.Definition.{Definition}

@@ -1,10 +1,9 @@
 -- One load as its contract says it: of the loader, the list, the child and what was posted.
-use Rattle.std.proofs.Common.{◌≡◌, ◌≢◌, ◌<◌, ◌≤◌, ◌+◌, ◌∙◌, ◌⊎◌, ◌∷◌, ◌++◌, [], ℕ, zero, suc, List, Result, Ok, Err, length, refl, sym, ap, subst, inl, inr, arith, append_assoc}
+use Rattle.std.proofs.Common.{◌≡◌, ◌<◌, ◌≤◌, ◌∙◌, ◌⊎◌, ◌∷◌, ◌++◌, [], ℕ, zero, suc, List, Err, length, refl, sym, ap, subst, inl, inr, arith, append_assoc}
 use Rattle.std.specs.Prelude.{IsErrOf, true, false, pos, negsuc}
 use Rattle.std.specs.List.{concat}
 use Rattle.child_io.specs.declared.child.Outcome.{Outcome}
 use Rattle.child_io.specs.declared.child.Outcome.TheVariants as outcome
-use Rattle.child_io.specs.declared.pieces.PieceEnd.{PieceEnd}
 use Rattle.child_io.specs.Gathers.{outcome_of}
 use Rattle.dict_io.specs.Outside.{HasCause}
 use Rattle.dict_schema.specs.declared.definition.Definition.{Definition}
@@ -14,7 +13,7 @@ use Rattle.dict_value.specs.declared.fault.Cause.{Cause}
 use Rattle.dict_value.specs.declared.fault.Cause.TheVariants as cause
 use Rattle.dict_value.specs.declared.fault.Exit.TheVariants.{Code, Killed}
 use Rattle.dict_version.specs.Contents.{Contents}
-use Rattle.load_core.specs.DictSteps.{most_loads, stepped}
+use Rattle.load_core.specs.DictSteps.{stepped}
 use Rattle.load_core.specs.declared.dictionary.DictCore.{DictCore}
 use Rattle.load_core.specs.declared.dictionary.DictEvent.TheVariants.{Start}
 use Rattle.packed_rows.specs.Columns.{RowList}

@@ -1,5 +1,5 @@
 -- Rows that a definition takes: decoded ones, none, and those of an overlay.
-use Rattle.std.proofs.Common.{◌≡◌, ◌<◌, ℕ, List, [], ◌∷◌, Ok, map, arith, slice_get}
+use Rattle.std.proofs.Common.{◌<◌, ℕ, List, [], ◌∷◌, Ok, map, arith, slice_get}
 use Rattle.std.specs.Prelude.{All, IsSome}
 use Rattle.std.specs.List.{AllByRecursion, AllZip}
 use Rattle.std.proofs.lemmas.List.Elements.{All-from_recursion, All-map, All-nil, recursion_from_All}
@@ -10,9 +10,9 @@ use Rattle.dict_value.specs.Addresses.{prefix_in}
 use Rattle.dict_value.specs.Values.{FitsColumn}
 use Rattle.dict_value.specs.declared.value.Value.{Value}
 use Rattle.dict_value.specs.declared.value.Value.TheVariants.{Null, U, I, S, Day, Second, Id, V4, V6, Dec}
-use Rattle.dict_version.specs.Keys.{number_in, numbers_of, text_in, texts_of}
+use Rattle.dict_version.specs.Keys.{number_in, text_in}
 use Rattle.dict_version.specs.Lookups.{lookup_by}
-use Rattle.dict_version.specs.Rows.{LayoutTakes, LayoutTakesBy, TakesRows}
+use Rattle.dict_version.specs.Rows.{LayoutTakesBy, TakesRows}
 use Rattle.dict_version.specs.declared.lookup.LookupBy.{LookupBy}
 use Rattle.dict_version.specs.declared.lookup.LookupBy.TheVariants as by
 use Rattle.overlay.specs.Overlays.{Overlay}

@@ -1,5 +1,5 @@
 -- What a sound definition has that a load rests on.
-use Rattle.std.proofs.Common.{◌≡◌, ◌≢◌, ◌<◌, ◌≤◌, ◌+◌, ◌++◌, ℕ, zero, suc, List, [], ◌∷◌, length, map, Bool, true, false, Option, Some, None, inl, inr, ◌⊎◌, arith, subst, refl, sym, ap, slice_get, get_or}
+use Rattle.std.proofs.Common.{◌≡◌, ◌≢◌, ◌<◌, ◌≤◌, ◌+◌, ◌++◌, ℕ, zero, suc, List, [], ◌∷◌, length, map, Bool, true, false, Some, None, inl, inr, ◌⊎◌, arith, subst, refl, slice_get, get_or}
 use Rattle.std.specs.List.{AllByRecursion, filter, range_with_len}
 use Rattle.std.proofs.lemmas.Bool.{cases_lt}
 use Rattle.std.proofs.lemmas.List.{length-append, length-map}
@@ -11,7 +11,7 @@ use Rattle.dict_schema.specs.Judging.{AreClear, IsClear, Numbered, Rule, Where}
 use Rattle.dict_schema.specs.Parts.{column_names, is_attribute, is_updated_layout}
 use Rattle.dict_schema.specs.Shapes.{attribute_columns, cell_type, cell_types, columns_at, end_columns, shape_of}
 use Rattle.dict_schema.specs.Sound.{IsSound}
-use Rattle.dict_schema.specs.Table.{IsBadDefault, IsBadParent, NamesWithin, attributes, counts, keys, ranges, settings, sources, table}
+use Rattle.dict_schema.specs.Table.{IsBadDefault, IsBadParent, NamesWithin, attributes, counts, keys, ranges, settings, sources}
 use Rattle.dict_schema.specs.declared.definition.Column.{Column}
 use Rattle.dict_schema.specs.declared.definition.Definition.{Definition}
 use Rattle.dict_schema.specs.declared.definition.RangeOf.{RangeOf}

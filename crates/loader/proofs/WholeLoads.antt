@@ -1,22 +1,20 @@
 -- One load as a whole.
-use Rattle.std.proofs.Common.{◌≡◌, ◌<◌, ◌≤◌, ◌+◌, ◌∙◌, ◌⊎◌, ◌∷◌, ◌++◌, [], ℕ, List, length, refl, sym, ap, subst, inl, inr, arith, append_assoc}
+use Rattle.std.proofs.Common.{◌≡◌, ◌≤◌, ◌+◌, ◌∙◌, ◌⊎◌, [], ℕ, List, length, refl, sym, ap, subst, inl, inr, arith}
 use Rattle.std.proofs.lemmas.List.{length_push}
 use Rattle.std.specs.List.{concat}
 use Rattle.child_io.specs.Gathers.{outcome_of}
 use Rattle.child_io.specs.declared.pieces.PieceEnd.{PieceEnd}
 use Rattle.child_io.specs.declared.pieces.PieceEnd.TheVariants as piece_end
 use Rattle.dict_schema.specs.declared.definition.Definition.{Definition}
-use Rattle.dict_value.specs.declared.fault.Cause.{Cause}
-use Rattle.dict_value.specs.declared.fault.Cause.TheVariants as cause
 use Rattle.dict_version.specs.Contents.{Contents}
-use Rattle.load_core.specs.DictSteps.{most_loads, stepped}
+use Rattle.load_core.specs.DictSteps.{stepped}
 use Rattle.load_core.specs.declared.dictionary.DictCore.{DictCore}
 use Rattle.load_core.specs.declared.dictionary.DictEvent.TheVariants.{Start}
 use Rattle.packed_rows.specs.Columns.{RowList}
 use Rattle.loader.proofs.CoreEnds.{HasEnded, added, load-ended}
 use Rattle.loader.proofs.CoreRuns.{HasBegun}
 use Rattle.loader.specs.Loaders.{EndsLoad, IsAfter, IsAt, LoaderState, Running, RunsLoad, StartsNone, version_of}
-use Rattle.loader.specs.Timing.{Timing, after_failure}
+use Rattle.loader.specs.Timing.{Timing}
 use Rattle.loader.specs.declared.answers.LoadEnd.{LoadEnd}
 use Rattle.loader.specs.declared.answers.LoadEnd.TheVariants as load
 use Rattle.loader.specs.steps.Kept.{after_version}

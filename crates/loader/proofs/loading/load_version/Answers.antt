@@ -1,6 +1,5 @@
-use Rattle.std.proofs.Common.{◌≡◌, ◌≤◌, ◌∙◌, List, Ok, ap, inl, length, subst, sym}
+use Rattle.std.proofs.Common.{◌≤◌, ◌∙◌, List, inl, length, subst, sym}
 use Rattle.std.specs.List.{concat}
-use Rattle.dict_schema.specs.Shapes.{shape_of}
 use Rattle.dict_schema.specs.declared.definition.Column.{Column}
 use Rattle.dict_schema.specs.declared.definition.ShapeColumn.{ShapeColumn}
 use Rattle.rows_typed.specs.Fits.{HasFittingDefaults}

@@ -1,9 +1,9 @@
-use Rattle.std.proofs.Common.{◌≤◌, ◌∷◌, ◌++◌, [], Ok, Err, refl, subst}
+use Rattle.std.proofs.Common.{◌≤◌, ◌∷◌, ◌++◌, [], Err, refl, subst}
 use Rattle.load_core.specs.declared.dictionary.DictCore.{DictCore}
 use Rattle.loader.proofs.OneLoad.{begun-at, cause-end, ended-at, load-failed, load-published, load-spent, no-cause, spent-at, start-at, two-posted}
 use Rattle.loader.specs.declared.answers.LoadEnd.TheVariants as load
 use Rattle.loader.specs.declared.board.Posting.TheVariants as post
-use Rattle.loader.specs.steps.Kept.{fault_end, posted_cause}
+use Rattle.loader.specs.steps.Kept.{posted_cause}
 use Rattle.loader.specs.steps.Makings.{kept_in}
 use Rattle.loader.specs.steps.Publishings.{load_end_of}
 use Rattle.loader.proofs.loader.Loader.load_by.Goals as goal
