@@ -1,5 +1,5 @@
 // The parts of a desk.
-ghost use Rattle.std.specs.Prelude.{◌≡◌, ℕ, ◌≤◌, All, Bool, List, length, Option, Result, IfErr, IfOk, IsErrOf, false};
+ghost use Rattle.std.specs.Prelude.{◌≡◌, ℕ, ◌≤◌, All, Bool, List, length, Option, Result, IfErr, IfOk, IsErrOf, Some, false};
 ghost use mathlib.Core.List.{IsPrefix};
 ghost use Rattle.dict_io.specs.Outside.{HasCause};
 ghost use Rattle.dict_io.specs.declared.outside.TheConstants.{LAST_MOMENT};
@@ -73,12 +73,13 @@ pub trait DictAt<S: Spawner> {
         ensures grows { IsPrefix (view (state self.old)) (view (state self.new)) }
         ensures learnt { (n : ℕ) → result ≡ LoadEnd.Published n → n ≤ length (view (state self.new)) };
 
-    /// A load where one is due at this moment.
+    /// A load where one is due at this moment; of a published version its viewer has learnt.
     fn load_due(&mut self, alloc: Global, spawner: &mut S, now: u64) -> Option<LoadEnd>
         requires { now ≤ LAST_MOMENT }
         ensures act { due (state self.old) (children_of S.scripts S.starts spawner.old) now result
             (state self.new) (children_of S.scripts S.starts spawner.new) }
-        ensures grows { IsPrefix (view (state self.old)) (view (state self.new)) };
+        ensures grows { IsPrefix (view (state self.old)) (view (state self.new)) }
+        ensures learnt { (n : ℕ) → result ≡ Some (LoadEnd.Published n) → n ≤ length (view (state self.new)) };
 
     /// Whether a definition is the current one.
     fn is_current(&mut self, definition: &Definition) -> bool
@@ -98,7 +99,8 @@ pub trait DictAt<S: Spawner> {
         requires bound { now ≤ LAST_MOMENT }
         ensures act { loaded_as (state self.old) definition (children_of S.scripts S.starts spawner.old) now result
             (state self.new) (children_of S.scripts S.starts spawner.new) }
-        ensures grows { IsPrefix (view (state self.old)) (view (state self.new)) };
+        ensures grows { IsPrefix (view (state self.old)) (view (state self.new)) }
+        ensures learnt { (n : ℕ) → result ≡ LoadEnd.Published n → n ≤ length (view (state self.new)) };
 }
 
 /// The definitions file: what a desk reads once more.
