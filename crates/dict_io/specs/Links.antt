@@ -14,7 +14,8 @@ written_side known faults = side known faults false
 
 -- the ends of what is left with the faults of reads and whether it ended, and what was written with the faults of writes
 abbrev pub ends_of : Option (List ℕ) → ℕ → Bool → Option (List ℕ) → ℕ → Ends
-ends_of left read_faults ended written write_faults = record { reads = side left read_faults ended; writes = written_side written write_faults }
+ends_of left read_faults ended written write_faults =
+    record { reads = side left read_faults ended; writes = written_side written write_faults }
 
 -- the piece was written, or a front of it and then a write failed; the side that is read is as it was
 pub record Puts (old : Ends) (piece : List ℕ) (result : Result (Unit {0}) Failed) (new : Ends) : Type 0 where

@@ -6,6 +6,7 @@
 //! read gives the next of them and a write appends.
 #![tactic(auto)]
 
+pub mod lent;
 pub mod link;
 pub mod memory;
 pub mod outside;

@@ -16,7 +16,8 @@ pub trait Link: Source + Sink {
     ghost ends: { Self → Ends };
 
     /// They are what the two sides tell and count.
-    ghost are: { (l : Self) → ends l ≡ ends_of (Self.left l) (Self.read_faults l) (Self.ended l) (Self.written l) (Self.write_faults l) };
+    ghost are: { (l : Self) → ends l
+        ≡ ends_of (Self.left l) (Self.read_faults l) (Self.ended l) (Self.written l) (Self.write_faults l) };
 
     /// What a read keeps is the side that is written.
     ghost read_keeps: { (l : Self) → Self.kept_by_read l ≡ written_side (Self.written l) (Self.write_faults l) };
@@ -62,13 +63,15 @@ impl<I: Source, O: Sink> Both<I, O> {
     }
 
     pub fn source(&self) -> &I
-        ensures { (⟦<Both<I, O> as Link>⟧.ends self.now).reads ≡ side (I.left result.now) (I.read_faults result.now) (I.ended result.now) }
+        ensures { (⟦<Both<I, O> as Link>⟧.ends self.now).reads
+            ≡ side (I.left result.now) (I.read_faults result.now) (I.ended result.now) }
     {
         &self.source
     }
 
     pub fn sink(&self) -> &O
-        ensures { (⟦<Both<I, O> as Link>⟧.ends self.now).writes ≡ written_side (O.written result.now) (O.write_faults result.now) }
+        ensures { (⟦<Both<I, O> as Link>⟧.ends self.now).writes
+            ≡ written_side (O.written result.now) (O.write_faults result.now) }
     {
         &self.sink
     }
@@ -103,7 +106,8 @@ impl<I: Source, O: Sink> Sink for Both<I, O> {
 impl<I: Source, O: Sink> Link for Both<I, O> {
     ghost use Rattle.std.proofs.Common.{refl};
 
-    ghost ends = { λ s. ends_of (I.left s.source) (I.read_faults s.source) (I.ended s.source) (O.written s.sink) (O.write_faults s.sink) };
+    ghost ends = { λ s. ends_of (I.left s.source) (I.read_faults s.source) (I.ended s.source) (O.written s.sink)
+        (O.write_faults s.sink) };
 
     ghost are = { λ s. refl };
 
@@ -120,33 +124,5 @@ impl Both<MemorySource, MemorySink> {
         ensures { (⟦<Both<MemorySource, MemorySink> as Link>⟧.ends self.now).writes.known ≡ Some result.now }
     {
         self.sink.written()
-    }
-}
-
-// A lent source is a source, and a lent sink a sink.
-
-impl<I: Source> Source for &mut I {
-    ghost left = { λ s. I.left s.now };
-
-    ghost read_faults = { λ s. I.read_faults s.now };
-
-    ghost ended = { λ s. I.ended s.now };
-
-    ghost kept_by_read = { λ s. I.kept_by_read s.now };
-
-    fn read(&mut self, buf: &mut [u8]) -> Got {
-        (**self).read(buf)
-    }
-}
-
-impl<O: Sink> Sink for &mut O {
-    ghost written = { λ s. O.written s.now };
-
-    ghost write_faults = { λ s. O.write_faults s.now };
-
-    ghost kept_by_write = { λ s. O.kept_by_write s.now };
-
-    fn write(&mut self, piece: &[u8]) -> Put {
-        (**self).write(piece)
     }
 }

@@ -1,7 +1,8 @@
 // What the program meets, as traits.
-ghost use Rattle.std.specs.Prelude.{◌≡◌, ◌<◌, ◌≤◌, ℕ, List, length, Bool, Option, false, IsErr, IsErrOf};
+ghost use Rattle.std.specs.Prelude.{◌≡◌, ◌<◌, ◌≤◌, ℕ, List, length, Bool, Option, Result, false, IsErr, IsErrOf};
 ghost use Rattle.dict_io.specs.Outside.{count_up, HasCause, GotGives, GotWithin, is_end, PutGives, PutWithin, Side};
 ghost use Rattle.dict_io.specs.Outside.{NextMoment, ReadsFile, WritesPrefix};
+ghost use Rattle.dict_io.specs.declared.outside.ShelfFault.{ShelfFault};
 
 use dict_value::Bytes;
 use thiserror::Error;
@@ -79,19 +80,31 @@ pub trait Sink {
         ensures kept { kept_by_write self.new ≡ kept_by_write self.old };
 }
 
-/// Files by their names.
+/// Files by their names: each reading gives what the file is then.
 pub trait Shelf {
-    /// Of a name: the file's bytes, or that there is no such file, where it tells that.
-    ghost file: { Self → List ℕ → Option (Option (List ℕ)) };
+    /// What the readings that come will find is plain data of a type that the shelf names.
+    ghost Readings: { Type 0 };
+
+    ghost readings: { Self → Readings };
+
+    /// What the next reading finds of a name: the file's bytes, or that there is no such file, where that is told.
+    ghost file: { Readings → List ℕ → Option (Option (List ℕ)) };
+
+    /// What the readings behind the next one will find.
+    ghost later: { Readings → Readings };
+
+    /// A shelf answered this for the file of this name.
+    ghost filed: { List ℕ → Result (List ℕ) ShelfFault → Type 0 };
 
     /// How often a file wasn't read.
     ghost shelf_faults: { Self → ℕ };
 
     /// The bytes of a file that has at most `limit` of them.
     fn read_file(&mut self, name: &str, limit: u32) -> Result<Bytes, ShelfFault>
-        ensures bytes { ReadsFile (file self.old name.now) limit result }
+        ensures bytes { ReadsFile (file (readings self.old) name.now) limit result }
+        ensures filed { filed name.now result }
         ensures cause { HasCause (shelf_faults self.old) (shelf_faults self.new) (IsErrOf result ShelfFault.Failed) }
-        ensures rest { file self.new ≡ file self.old };
+        ensures later { readings self.new ≡ later (readings self.old) };
 }
 
 /// The last moment: a number above it that a clock gives is read as this one.

@@ -133,7 +133,15 @@ impl<'a, R: Files> FileShelf<'a, R> {
 }
 
 impl<R: Files> Shelf for FileShelf<'_, R> {
-    ghost file = { λ s name. None };
+    ghost Readings = { Unit {0} };
+
+    ghost readings = { λ _. tt };
+
+    ghost file = { λ _ name. None };
+
+    ghost later = { λ _. tt };
+
+    ghost filed = { λ name answer. Unit {0} };
 
     ghost shelf_faults = { λ s. s.faults };
 

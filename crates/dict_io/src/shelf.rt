@@ -1,8 +1,9 @@
 // Files in memory.
-ghost use Rattle.std.specs.Prelude.{◌≡◌, Some, find};
+ghost use Rattle.std.specs.Prelude.{◌≡◌, List, Some, find};
 ghost use Rattle.std.specs.Option.{option_copied};
 ghost use Rattle.std.specs.Str.{bytes_eq};
 ghost use Rattle.dict_io.specs.Shelves.{file_named};
+ghost use Rattle.dict_io.specs.declared.shelf.NamedFile.{NamedFile as FileOf};
 
 use crate::outside::{Shelf, ShelfFault};
 use dict_value::{Bytes, ListOf, NoMemory};
@@ -38,7 +39,7 @@ pub struct MemoryShelf {
 impl MemoryShelf {
     /// `failing` are the calls, from 0, that fail.
     pub fn new(alloc: Global, files: ListOf<NamedFile>, failing: ListOf<u64>) -> MemoryShelf
-        ensures file { ⟦<MemoryShelf as Shelf>⟧.file result ≡ (λ name. Some (file_named files name)) }
+        ensures readings { ⟦<MemoryShelf as Shelf>⟧.readings result ≡ files }
         ensures faults { ⟦<MemoryShelf as Shelf>⟧.shelf_faults result ≡ 0 }
     {
         MemoryShelf {
@@ -52,7 +53,15 @@ impl MemoryShelf {
 }
 
 impl Shelf for MemoryShelf {
-    ghost file = { λ s name. Some (file_named s.files name) };
+    ghost Readings = { List FileOf };
+
+    ghost readings = { λ s. s.files };
+
+    ghost file = { λ files name. Some (file_named files name) };
+
+    ghost later = { λ files. files };
+
+    ghost filed = { λ name answer. Unit {0} };
 
     ghost shelf_faults = { λ s. s.faults };
 

@@ -54,7 +54,7 @@ fn read_definitions<F: Shelf>(
     shelf: &mut F,
     name: &str,
 ) -> Result<ListOf<Item>, Status>
-    ensures read { ReadsDefinitions (F.file shelf.old name.now) result }
+    ensures read { ReadsDefinitions (F.file (F.readings shelf.old) name.now) result }
     ensures sound { IfOk result (All IsSoundItem) }
     ensures cause { HasCause (F.shelf_faults shelf.old) (F.shelf_faults shelf.new) (IsErrOf result Status.DefsUnread) }
 {
@@ -156,7 +156,7 @@ fn run<F: Shelf, S: Spawner, C: Clock, I: Source, O: Sink>(
     ensures reads { RoseWhere (I.read_faults input.old) (I.read_faults input.new) (result ≡ Status.ReadFault) }
     ensures reads_well { result ≢ Status.ReadFault → result ≢ Status.WriteFault → I.read_faults input.new ≡ I.read_faults input.old }
     ensures writes { HasCause (O.write_faults out.old) (O.write_faults out.new) (result ≡ Status.WriteFault) }
-    ensures run { OnceRun (map string_bytes words.now) (F.file shelf.old) S.ran (record { scripts = S.scripts spawner.old; left = I.left input.old; written = O.written out.old }) (record { scripts = S.scripts spawner.new; left = I.left input.new; written = O.written out.new }) result }
+    ensures run { OnceRun (map string_bytes words.now) (F.file (F.readings shelf.old)) S.ran (record { scripts = S.scripts spawner.old; left = I.left input.old; written = O.written out.old }) (record { scripts = S.scripts spawner.new; left = I.left input.new; written = O.written out.new }) result }
 {
     let Some(name) = once_file(words) else {
         return Status::Usage;
@@ -201,7 +201,7 @@ pub fn once<F: Shelf, S: Spawner, C: Clock, I: Source, O: Sink, E: Sink>(
     ensures reads { RoseWhere (I.read_faults input.old) (I.read_faults input.new) (result ≡ Status.ReadFault) }
     ensures reads_well { result ≢ Status.ReadFault → result ≢ Status.WriteFault → I.read_faults input.new ≡ I.read_faults input.old }
     ensures writes { HasCause (O.write_faults out.old) (O.write_faults out.new) (result ≡ Status.WriteFault) }
-    ensures run { OnceRun (map string_bytes words.now) (F.file shelf.old) S.ran (record { scripts = S.scripts spawner.old; left = I.left input.old; written = O.written out.old }) (record { scripts = S.scripts spawner.new; left = I.left input.new; written = O.written out.new }) result }
+    ensures run { OnceRun (map string_bytes words.now) (F.file (F.readings shelf.old)) S.ran (record { scripts = S.scripts spawner.old; left = I.left input.old; written = O.written out.old }) (record { scripts = S.scripts spawner.new; left = I.left input.new; written = O.written out.new }) result }
     ensures told { Tells (E.written err.old) (E.written err.new) (status_text result) (Rose (E.write_faults err.old) (E.write_faults err.new)) }
 {
     let status = run(alloc, words, shelf, spawner, clock, input, out);
