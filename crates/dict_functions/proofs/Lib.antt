@@ -1,4 +1,4 @@
-mod AskedLines
+pub mod AskedLines
 mod Cells
 mod FetchedCells
 mod Fitting

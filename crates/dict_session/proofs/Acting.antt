@@ -7,7 +7,14 @@ use Rattle.std.specs.Prelude.{IfOk}
 use mathlib.Core.List.{IsPrefix}
 use Rattle.dict_session.specs.Acts.{Act, Moment, Before, Entered, Taught, Reloaded, Keyed, Called, Configured, Leads}
 use Rattle.dict_session.specs.Floors.{IsRight, IsSeenIn, IsVersionIn, KeepsFloor, Moved, NeverFalls, floor_after, raised}
-use Rattle.dict_session.specs.Facts.{Facts, Grows}
+use Rattle.dict_schema.specs.declared.definition.Definition.{Definition}
+use Rattle.dict_schema.specs.declared.definition.FunctionDef.{FunctionDef}
+use Rattle.dict_session.specs.Facts.{EachFetched, EachReturned, Facts, Grows}
+use Rattle.dict_session.specs.Items.{IsFunctionItem, IsKeyedItem}
+use Rattle.dict_value.specs.declared.fault.CallFault.{CallFault}
+use Rattle.dict_value.specs.declared.fault.FetchFault.{FetchFault}
+use Rattle.dict_value.specs.declared.value.FetchedRow.{FetchedRow}
+use Rattle.dict_value.specs.declared.value.Value.{Value}
 use Rattle.dict_session.specs.declared.desk.ConfigEnd.{ConfigEnd}
 use Rattle.dict_version.specs.Contents.{Contents}
 use Rattle.loader.specs.declared.answers.LoadEnd.{LoadEnd}
@@ -119,8 +126,10 @@ module _ {S : Type 0} (facts : Facts S) where
   right_grows t u g (Reloaded d now (end.Published n)) is = let longer = prefix-length (facts.view t d) (facts.view u d) (g.views d) in omega arith
   right_grows t u g (Reloaded d now (end.Failed cause)) is = tt
   right_grows t u g (Reloaded d now end.NoMemory) is = tt
-  right_grows t u g (Keyed d now keys answer) is = tt
-  right_grows t u g (Called f rows answer) is = tt
+  right_grows t u g (Keyed d now keys (Ok rows)) is = λ definition item. is definition (subst (λ items. IsKeyedItem items d definition) g.items item)
+  right_grows t u g (Keyed d now keys (Err why)) is = tt
+  right_grows t u g (Called f rows (Ok values)) is = λ definition item. is definition (subst (λ items. IsFunctionItem items f definition) g.items item)
+  right_grows t u g (Called f rows (Err why)) is = tt
   right_grows t u g (Configured now answer) is = tt
 
   all_right_grows : (t u : S) → Grows facts t u → (acts : List Act) → AllByRecursion (IsRight facts t) acts → AllByRecursion (IsRight facts u) acts
@@ -196,3 +205,29 @@ module _ {S : Type 0} (facts : Facts S) where
   }
   moved_reloaded s t d now (end.Failed cause) did g learnt = record { leads = (t, did, refl); grows = g; right = (tt, tt); floors = λ e. (tt, tt); top = longer s t g }
   moved_reloaded s t d now end.NoMemory did g learnt = record { leads = (t, did, refl); grows = g; right = (tt, tt); floors = λ e. (tt, tt); top = longer s t g }
+
+  pub moved_keyed : (s t : S) (d now : ℕ) (keys : List (List Value)) (answer : Result (List FetchedRow) FetchFault)
+      → facts.did s (Keyed d now keys answer) t → Grows facts s t
+      → ((definition : Definition) → IsKeyedItem (facts.items s) d definition → IfOk answer (EachFetched facts.gave definition now keys))
+      → Moved facts s (Keyed d now keys answer ∷ []) t
+  moved_keyed s t d now keys (Ok rows) did g fits = record {
+    leads = (t, did, refl);
+    grows = g;
+    right = ((λ definition item. fits definition (subst (λ items. IsKeyedItem items d definition) g.items item)), tt);
+    floors = λ e. (tt, tt);
+    top = longer s t g;
+  }
+  moved_keyed s t d now keys (Err why) did g fits = record { leads = (t, did, refl); grows = g; right = (tt, tt); floors = λ e. (tt, tt); top = longer s t g }
+
+  pub moved_called : (s t : S) (f : ℕ) (rows : List (List Value)) (answer : Result (List Value) CallFault)
+      → facts.did s (Called f rows answer) t → Grows facts s t
+      → ((definition : FunctionDef) → IsFunctionItem (facts.items s) f definition → IfOk answer (EachReturned definition rows))
+      → Moved facts s (Called f rows answer ∷ []) t
+  moved_called s t f rows (Ok values) did g fits = record {
+    leads = (t, did, refl);
+    grows = g;
+    right = ((λ definition item. fits definition (subst (λ items. IsFunctionItem items f definition) g.items item)), tt);
+    floors = λ e. (tt, tt);
+    top = longer s t g;
+  }
+  moved_called s t f rows (Err why) did g fits = record { leads = (t, did, refl); grows = g; right = (tt, tt); floors = λ e. (tt, tt); top = longer s t g }

@@ -14,7 +14,8 @@ use Rattle.dict_session.specs.Answers.{current_item, shown_item}
 use Rattle.dict_session.specs.Answers.{Answers, CallsOf, config_reply, no_memory, reach_reply, shown_reply}
 use Rattle.dict_session.specs.Asks.{IsLookupAsk, IsRequestAsk, apply_ask, by_dictionary, look_ask, show_ask, show_function}
 use Rattle.dict_session.specs.Facts.{Facts, Grows}
-use Rattle.dict_session.specs.Items.{IsLoadedItem}
+use Rattle.dict_schema.specs.declared.definition.Definition.{Definition}
+use Rattle.dict_session.specs.Items.{IsKeyedItem, IsLoadedItem}
 use Rattle.dict_session.specs.Serving.{Answered, AskFits, OrNoMemory, Tells}
 use Rattle.dict_session.specs.declared.answer.Answer.{Answer}
 use Rattle.dict_session.specs.declared.ask.Ask.{Ask}
@@ -202,23 +203,24 @@ show_fits items place other None function e = show_other items other function
 show_fits items place other (Some (Function f)) function e = show_other items other function
 show_fits items place other (Some (Dictionary def)) function e = show_if items place (is_keyed_layout def.layout) (λ none. (def, e, none))
 
-look_if : (items : List Item) (place : ℕ) (b : Bool) → (b ≡ false → IsLoadedItem items place)
-    → AskFits items (if b then ask.Fetch place else ask.Look place)
-look_if items place true fits = tt
-look_if items place false fits = fits refl
+look_if : (items : List Item) (place : ℕ) (b : Bool) → (b ≡ true → (definition : Definition) × IsKeyedItem items place definition)
+    → (b ≡ false → IsLoadedItem items place) → AskFits items (if b then ask.Fetch place else ask.Look place)
+look_if items place true keyed fits = keyed refl
+look_if items place false keyed fits = fits refl
 
 look_fits : (items : List Item) (place : ℕ) (item : Option Item) → slice_get items place ≡ item → AskFits items (look_ask place item)
 look_fits items place None e = tt
 look_fits items place (Some (Function f)) e = tt
-look_fits items place (Some (Dictionary def)) e = look_if items place (is_keyed_layout def.layout) (λ none. (def, e, none))
+look_fits items place (Some (Dictionary def)) e =
+    look_if items place (is_keyed_layout def.layout) (λ keyed. (def, (e, keyed))) (λ none. (def, e, none))
 
-apply_fits : (items : List Item) (place : ℕ) (item : Option Item) → AskFits items (apply_ask place item)
-apply_fits items place None = tt
-apply_fits items place (Some (Function f)) = tt
-apply_fits items place (Some (Dictionary def)) = tt
+apply_fits : (items : List Item) (place : ℕ) (item : Option Item) → slice_get items place ≡ item → AskFits items (apply_ask place item)
+apply_fits items place None e = tt
+apply_fits items place (Some (Function f)) e = (f, e)
+apply_fits items place (Some (Dictionary def)) e = tt
 
 pub lookup_fits : (items : List Item) (v : Verb) (name : List ℕ) (made : Ask) → IsLookupAsk items v name made → AskFits items made
-lookup_fits items verb.Call name made is = subst (AskFits items) (sym is.2) (apply_fits items is.0 (slice_get items is.0))
+lookup_fits items verb.Call name made is = subst (AskFits items) (sym is.2) (apply_fits items is.0 (slice_get items is.0) refl)
 lookup_fits items verb.Get name made is = subst (AskFits items) (sym is.2) (look_fits items is.0 (slice_get items is.0) refl)
 lookup_fits items verb.GetOrDefault name made is = subst (AskFits items) (sym is.2) (look_fits items is.0 (slice_get items is.0) refl)
 lookup_fits items verb.GetOrNull name made is = subst (AskFits items) (sym is.2) (look_fits items is.0 (slice_get items is.0) refl)

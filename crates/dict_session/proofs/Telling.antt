@@ -1,8 +1,12 @@
 -- The numbers that acts tell.
-use Rattle.std.proofs.Common.{◌≤◌, ◌==◌, ℕ, [], ◌∷◌, Bool, true, false, max, Ok, Err, arith, if◌then◌else◌}
-use Rattle.dict_session.specs.Acts.{Configured, Entered, Taught, Reloaded}
+use Rattle.std.proofs.Common.{◌≤◌, ◌==◌, ℕ, List, [], ◌∷◌, Bool, true, false, max, Ok, Err, Result, arith, if◌then◌else◌}
+use Rattle.dict_session.specs.Acts.{Called, Configured, Entered, Keyed, Taught, Reloaded}
 use Rattle.dict_session.specs.declared.desk.ConfigEnd.{ConfigEnd}
+use Rattle.dict_value.specs.declared.fault.CallFault.{CallFault}
 use Rattle.dict_value.specs.declared.fault.Cause.{Cause}
+use Rattle.dict_value.specs.declared.fault.FetchFault.{FetchFault}
+use Rattle.dict_value.specs.declared.value.FetchedRow.{FetchedRow}
+use Rattle.dict_value.specs.declared.value.Value.{Value}
 use Rattle.dict_session.specs.Serving.{Tells}
 use Rattle.dict_version.specs.Contents.{Contents}
 use Rattle.load_core.specs.declared.caller.CallerEvent.TheVariants as event
@@ -39,3 +43,9 @@ tells_refused_load d now place e floor = if_told (place == e) floor
 
 pub tells_config : (now place : ℕ) (answer : ConfigEnd) → Tells (Configured now answer ∷ []) place (event.Told 0)
 tells_config now place answer e floor = if_told (place == e) floor
+
+pub tells_keyed : (d now place : ℕ) (keys : List (List Value)) (answer : Result (List FetchedRow) FetchFault) → Tells (Keyed d now keys answer ∷ []) place (event.Told 0)
+tells_keyed d now place keys answer e floor = if_told (place == e) floor
+
+pub tells_called : (f place : ℕ) (rows : List (List Value)) (answer : Result (List Value) CallFault) → Tells (Called f rows answer ∷ []) place (event.Told 0)
+tells_called f place rows answer e floor = if_told (place == e) floor

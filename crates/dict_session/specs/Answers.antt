@@ -2,15 +2,24 @@
 use Rattle.std.specs.Prelude.{◌≡◌, ◌⊎◌, ℕ, List, [], ◌∷◌, Option, Some, None, Result, Ok, Err, if◌then◌else◌, nat_lt, slice_get}
 use Rattle.ddl_writing.specs.Canonical.{item_text}
 use Rattle.dict_functions.specs.Answers.{AnswersSeen}
+use Rattle.dict_functions.specs.Calls.{AnswersCall, AreArguments}
+use Rattle.dict_functions.specs.Keyed.{AnswersKeyed, AreKeys}
+use Rattle.dict_schema.specs.declared.definition.Definition.{Definition}
+use Rattle.dict_schema.specs.declared.definition.FunctionDef.{FunctionDef}
 use Rattle.dict_schema.specs.declared.definition.Item.{Item}
 use Rattle.dict_schema.specs.declared.definition.Item.TheVariants.{Dictionary}
-use Rattle.dict_session.specs.Acts.{Act, Entered, Taught, Reloaded, Configured}
+use Rattle.dict_session.specs.Acts.{Act, Called, Configured, Entered, Keyed, Reloaded, Taught}
 use Rattle.dict_session.specs.Asks.{IsAskOf}
+use Rattle.dict_session.specs.Items.{IsFunctionItem, IsKeyedItem}
 use Rattle.dict_session.specs.declared.ask.Ask.{Ask}
 use Rattle.dict_session.specs.declared.ask.Ask.TheVariants.{Refuse, SayBye, Look, Fetch, Apply, Load, Teach, Reach}
 use Rattle.dict_session.specs.declared.ask.Ask.TheVariants.{Show, ShowEntered, Configure}
 use Rattle.dict_session.specs.declared.desk.ConfigEnd.{ConfigEnd}
 use Rattle.dict_session.specs.declared.desk.ConfigEnd.TheVariants as config
+use Rattle.dict_value.specs.declared.fault.CallFault.{CallFault}
+use Rattle.dict_value.specs.declared.fault.FetchFault.{FetchFault}
+use Rattle.dict_value.specs.declared.value.FetchedRow.{FetchedRow}
+use Rattle.dict_value.specs.declared.value.Value.{Value}
 use Rattle.dict_version.specs.Contents.{Contents}
 use Rattle.loader.specs.declared.answers.LoadEnd.{LoadEnd}
 use Rattle.loader.specs.declared.answers.LoadEnd.TheVariants as end
@@ -21,6 +30,7 @@ use Rattle.version_slot.specs.declared.seen.EnterFault.TheVariants as enter
 use Rattle.wire_text.specs.RequestTexts.{Heard}
 use Rattle.wire_text.specs.declared.reply.Reply.{Reply}
 use Rattle.wire_text.specs.declared.reply.Reply.TheVariants.{Status, Number, Shown, Config, Bye, Refused}
+use Rattle.wire_text.specs.declared.reply.ReplyFault.{ReplyFault}
 use Rattle.wire_text.specs.declared.reply.ReplyFault.TheVariants as fault
 use Rattle.wire_text.specs.declared.request.Asked.{Asked}
 use Rattle.wire_text.specs.declared.request.Request.TheVariants as request
@@ -82,6 +92,30 @@ LooksUp (Some q) (Ok seen) reply = AnswersSeen seen q reply
 LooksUp (Some q) (Err refusal) reply = reply ≡ entering_refused refusal
 LooksUp None answer reply = ⊥
 
+-- The answer to a lookup in a dictionary whose rows are fetched by key: it is refused before a fetch, it comes from the
+-- rows that were fetched for its keys, or the fetch failed.
+pub data FetchAnswers (d : ℕ) (definition : Definition) (q : Asked) (now : ℕ) (calls : List Act) (reply : Reply)
+    : Type 0 where
+  refused : (refusal : ReplyFault) → AreKeys definition q (Err refusal) → calls ≡ [] → reply ≡ Refused refusal
+      → FetchAnswers d definition q now calls reply
+  fetched : (keys : List (List Value)) (rows : List FetchedRow) → AreKeys definition q (Ok keys)
+      → calls ≡ Keyed d now keys (Ok rows) ∷ [] → AnswersKeyed definition q now rows reply
+      → FetchAnswers d definition q now calls reply
+  failed : (keys : List (List Value)) (why : FetchFault) → AreKeys definition q (Ok keys)
+      → calls ≡ Keyed d now keys (Err why) ∷ [] → reply ≡ Refused (fault.Fetch why)
+      → FetchAnswers d definition q now calls reply
+
+-- The answer to a call of a function: it is refused before the function is called, it comes from the values that were
+-- given for its rows of arguments, or the call failed.
+pub data CallAnswers (f : ℕ) (definition : FunctionDef) (q : Asked) (calls : List Act) (reply : Reply) : Type 0 where
+  refused : (refusal : ReplyFault) → AreArguments definition q (Err refusal) → calls ≡ [] → reply ≡ Refused refusal
+      → CallAnswers f definition q calls reply
+  given : (rows : List (List Value)) (values : List Value) → AreArguments definition q (Ok rows)
+      → calls ≡ Called f rows (Ok values) ∷ [] → AnswersCall definition q values reply
+      → CallAnswers f definition q calls reply
+  failed : (rows : List (List Value)) (why : CallFault) → AreArguments definition q (Ok rows)
+      → calls ≡ Called f rows (Err why) ∷ [] → reply ≡ Refused (fault.Call why) → CallAnswers f definition q calls reply
+
 -- ---- one request
 
 -- the calls that are asked for, whatever they answered
@@ -92,6 +126,10 @@ CallsOf (ShowEntered d) now calls = (answer : Result (Seen Contents) EnterFault)
 CallsOf (Load d) now calls = (end : LoadEnd) × (calls ≡ Reloaded d now end ∷ [])
 CallsOf (Teach d) now calls = (row : StatusRow) × (calls ≡ Taught d row ∷ [])
 CallsOf Configure now calls = (end : ConfigEnd) × (calls ≡ Configured now end ∷ [])
+CallsOf (Fetch d) now calls = (calls ≡ [])
+    ⊎ ((keys : List (List Value)) × (answer : Result (List FetchedRow) FetchFault) × (calls ≡ Keyed d now keys answer ∷ []))
+CallsOf (Apply f) now calls = (calls ≡ [])
+    ⊎ ((rows : List (List Value)) × (answer : Result (List Value) CallFault) × (calls ≡ Called f rows answer ∷ []))
 CallsOf _ now calls = calls ≡ []
 
 -- the calls that are asked for, and the reply that follows from their answers
@@ -111,8 +149,10 @@ Answers items heard (Teach d) now calls reply =
     (row : StatusRow) × (calls ≡ Taught d row ∷ []) × (reply ≡ status_reply row)
 Answers items heard Configure now calls reply =
     (end : ConfigEnd) × (calls ≡ Configured now end ∷ []) × (reply ≡ config_reply end)
-Answers items heard (Fetch d) now calls reply = ⊥
-Answers items heard (Apply f) now calls reply = ⊥
+Answers items heard (Fetch d) now calls reply = (definition : Definition) × (q : Asked)
+    × IsKeyedItem items d definition × (asked_in heard ≡ Some q) × FetchAnswers d definition q now calls reply
+Answers items heard (Apply f) now calls reply = (definition : FunctionDef) × (q : Asked)
+    × IsFunctionItem items f definition × (asked_in heard ≡ Some q) × CallAnswers f definition q calls reply
 
 -- a request was answered; or memory was refused: then this is the reply, and the calls may be cut short
 abbrev pub IsServed : List Item → Option Heard → ℕ → List Act → Reply → Type 0

@@ -1,8 +1,11 @@
 -- What acts say of a later state, and the numbers that they tell: what was seen stands in the view, and never falls.
 use Rattle.std.specs.Prelude.{◌≡◌, ◌≤◌, ◌==◌, ℕ, List, [], ◌∷◌, Option, Some, None, Ok, if◌then◌else◌, length, max, ⊤}
 use Rattle.std.specs.List.{AllByRecursion}
-use Rattle.dict_session.specs.Acts.{Act, Entered, Taught, Reloaded, Leads}
-use Rattle.dict_session.specs.Facts.{Facts, Grows}
+use Rattle.dict_schema.specs.declared.definition.Definition.{Definition}
+use Rattle.dict_schema.specs.declared.definition.FunctionDef.{FunctionDef}
+use Rattle.dict_session.specs.Acts.{Act, Called, Entered, Keyed, Leads, Reloaded, Taught}
+use Rattle.dict_session.specs.Facts.{EachFetched, EachReturned, Facts, Grows}
+use Rattle.dict_session.specs.Items.{IsFunctionItem, IsKeyedItem}
 use Rattle.dict_version.specs.Contents.{Contents}
 use Rattle.loader.specs.declared.answers.LoadEnd.TheVariants as end
 use Rattle.version_slot.specs.Views.{Entered as Seen, entry}
@@ -16,10 +19,15 @@ pub record IsSeenIn (view : List Contents) (seen : Seen Contents) : Type 0 where
   pub within : seen.number ≤ length view
   pub version : IsVersionIn view seen.number seen.version
 
+-- what an act told holds of a later state: what was seen stands in the view, and what was fetched or given fits
 abbrev pub IsRight : {S : Type 0} → Facts S → S → Act → Type 0
 IsRight facts t (Entered d (Ok seen)) = IsSeenIn (facts.view t d) seen
 IsRight facts t (Taught d row) = row.number ≤ length (facts.view t d)
 IsRight facts t (Reloaded d now (end.Published number)) = number ≤ length (facts.view t d)
+IsRight facts t (Keyed d now keys (Ok rows)) = (definition : Definition) → IsKeyedItem (facts.items t) d definition
+    → EachFetched facts.gave definition now keys rows
+IsRight facts t (Called f rows (Ok values)) = (definition : FunctionDef) → IsFunctionItem (facts.items t) f definition
+    → EachReturned definition rows values
 IsRight facts t _ = ⊤
 
 -- ---- floors

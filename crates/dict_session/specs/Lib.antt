@@ -6,3 +6,5 @@ pub mod Asks
 pub mod Floors
 pub mod Answers
 pub mod Serving
+pub mod Session
+pub mod Turns

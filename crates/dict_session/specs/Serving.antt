@@ -5,8 +5,10 @@ use Rattle.dict_session.specs.Acts.{Act}
 use Rattle.dict_session.specs.Answers.{Answers, CallsOf, no_memory}
 use Rattle.dict_session.specs.Floors.{Moved, floor_after}
 use Rattle.dict_session.specs.Facts.{Facts}
-use Rattle.dict_session.specs.Items.{IsLoadedItem}
+use Rattle.dict_session.specs.Items.{IsFunctionItem, IsKeyedItem, IsLoadedItem}
 use Rattle.dict_session.specs.declared.ask.Ask.TheVariants as ask
+use Rattle.dict_schema.specs.declared.definition.Definition.{Definition}
+use Rattle.dict_schema.specs.declared.definition.FunctionDef.{FunctionDef}
 use Rattle.dict_schema.specs.declared.definition.Item.{Item}
 use Rattle.dict_session.specs.declared.answer.Answer.{Answer}
 use Rattle.dict_session.specs.declared.ask.Ask.{Ask}
@@ -47,4 +49,6 @@ AskFits items (ask.Load d) = IsLoadedItem items d
 AskFits items (ask.Teach d) = IsLoadedItem items d
 AskFits items (ask.Reach d number) = IsLoadedItem items d
 AskFits items (ask.ShowEntered d) = IsLoadedItem items d
+AskFits items (ask.Fetch d) = (definition : Definition) × IsKeyedItem items d definition
+AskFits items (ask.Apply f) = (definition : FunctionDef) × IsFunctionItem items f definition
 AskFits items _ = ⊤

@@ -16,6 +16,7 @@ ghost use Rattle.wire_text.specs.declared.request.Verb.TheVariants as verb;
 
 use crate::ask::{Ask, ask_of, lookup_ask};
 use crate::desk::{ConfigEnd, Desk};
+use crate::keyed::{apply, fetch};
 use ddl_writing::{write_definition, write_dictionary};
 use dict_functions::answer_loaded;
 use dict_schema::{Definition, Item};
@@ -27,6 +28,7 @@ use version_slot::EnterFault;
 use wire_text::{Asked, Reply, ReplyFault, Request, StatusLine};
 
 /// A reply, and what it tells of the versions of the dictionary at a place.
+#[derive(Drop)]
 pub struct Answer {
     pub reply: Reply,
     pub place: u32,
@@ -59,7 +61,8 @@ fn look_up<D: Desk>(alloc: Global, desk: &mut D, d: u32, q: &Asked, now: u64) ->
     requires loaded { IsLoadedItem (D.facts.items (D.state desk.old)) d }
     requires asked { IsAsked q.now }
     requires lookup { q.now.verb ≢ verb.Call }
-    ensures { Answered D.facts (D.state desk.old) (Heard.asks (request.Asked q.now)) (Ask.Look d) now result (D.state desk.new) }
+    ensures { Answered D.facts (D.state desk.old) (Heard.asks (request.Asked q.now)) (Ask.Look d) now result
+        (D.state desk.new) }
 {
     match desk.enter(d) {
         Ok(seen) => Answer {
@@ -74,7 +77,8 @@ fn look_up<D: Desk>(alloc: Global, desk: &mut D, d: u32, q: &Asked, now: u64) ->
 /// Whether a dictionary has a version of this number or a later one.
 fn reach<D: Desk>(desk: &mut D, d: u32, number: u64, heard: &Request, now: u64) -> Answer
     requires loaded { IsLoadedItem (D.facts.items (D.state desk.old)) d }
-    ensures { Answered D.facts (D.state desk.old) (Heard.asks heard.now) (Ask.Reach d number) now result (D.state desk.new) }
+    ensures { Answered D.facts (D.state desk.old) (Heard.asks heard.now) (Ask.Reach d number) now result
+        (D.state desk.new) }
 {
     match desk.enter(d) {
         Ok(seen) => {
@@ -184,7 +188,8 @@ fn shown_definition(alloc: Global, d: &Definition) -> Reply
 /// The current definition of a dictionary that is fully loaded: that of the version that was entered, else the item's.
 fn show_entered<D: Desk>(alloc: Global, desk: &mut D, d: u32, heard: &Request, now: u64) -> Answer
     requires loaded { IsLoadedItem (D.facts.items (D.state desk.old)) d }
-    ensures { Answered D.facts (D.state desk.old) (Heard.asks heard.now) (Ask.ShowEntered d) now result (D.state desk.new) }
+    ensures { Answered D.facts (D.state desk.old) (Heard.asks heard.now) (Ask.ShowEntered d) now result
+        (D.state desk.new) }
 {
     match desk.enter(d) {
         Ok(seen) => {
@@ -202,14 +207,17 @@ fn show_entered<D: Desk>(alloc: Global, desk: &mut D, d: u32, heard: &Request, n
     }
 }
 
-/// The answer to a lookup; one by key, or a call of a function, isn't built: it is answered as memory that lacks.
+/// The answer to a lookup, or to a call of a function.
 fn answer_lookup<D: Desk>(alloc: Global, desk: &mut D, q: &Asked, now: u64) -> Answer
-    requires { IsAsked q.now }
+    requires asked { IsAsked q.now }
+    requires bound { now ≤ LAST_MOMENT }
     ensures { (ask : Ask) × IsLookupAsk (D.facts.items (D.state desk.old)) q.now.verb q.now.name ask
         × Answered D.facts (D.state desk.old) (Heard.asks (request.Asked q.now)) ask now result (D.state desk.new) }
 {
     match lookup_ask(desk.items().as_slice(), q) {
         Ask::Look(d) => look_up(alloc, desk, d, q, now),
+        Ask::Fetch(d) => fetch(alloc, desk, d, q, now),
+        Ask::Apply(f) => apply(alloc, desk, f, q, now),
         Ask::Refuse(fault) => plain(Reply::Refused(fault)),
         _ => plain(Reply::Refused(ReplyFault::NoMemory)),
     }

@@ -11,9 +11,12 @@
 pub mod answer;
 pub mod ask;
 pub mod desk;
+mod keyed;
 pub mod laws;
+pub mod session;
 
 pub use answer::{Answer, answer_request};
 pub use ask::{Ask, ask_of};
 pub use desk::{ConfigEnd, Desk};
 pub use laws::{acts_follow, an_entering_keeps_floors};
+pub use session::{SessionEnd, serve_session};

@@ -28,3 +28,15 @@ returns-in_default g c = (
   plain_answered g.D.Desk.facts _ (Heard.asks (request.Asked c.args.q.now)) c.lookup_ask.result c.args.now c.plain-in_default.result
       c.plain-in_default.ensures.event (inr c.plain-in_default.ensures.reply),
 )
+
+pub apply-requires-clause-function : goal.apply-requires-clause-function
+apply-requires-clause-function g c =
+    lookup_fits _ c.args.q.now.verb c.args.q.now.name (ask.Apply c.in-Apply.f)
+    (subst (λ z. IsLookupAsk z c.args.q.now.verb c.args.q.now.name (ask.Apply c.in-Apply.f)) (c.as_slice.ensures ∙ c.items.ensures.items)
+    (subst (λ a. IsLookupAsk c.as_slice.result.now c.args.q.now.verb c.args.q.now.name a) c.in-Apply.is c.lookup_ask.ensures))
+
+pub fetch-requires-clause-keyed : goal.fetch-requires-clause-keyed
+fetch-requires-clause-keyed g c =
+    lookup_fits _ c.args.q.now.verb c.args.q.now.name (ask.Fetch c.in-Fetch.d)
+    (subst (λ z. IsLookupAsk z c.args.q.now.verb c.args.q.now.name (ask.Fetch c.in-Fetch.d)) (c.as_slice.ensures ∙ c.items.ensures.items)
+    (subst (λ a. IsLookupAsk c.as_slice.result.now c.args.q.now.verb c.args.q.now.name a) c.in-Fetch.is c.lookup_ask.ensures))
