@@ -8,8 +8,12 @@ mod following;
 mod items;
 mod over;
 mod parts;
+mod plain;
+mod reading;
 
 pub use following::Counts;
 pub use items::{Items, are_loaded};
 pub use over::DeskOver;
 pub use parts::{DictAt, FileAt};
+pub use plain::PlainDict;
+pub use reading::{DefinitionsFile, MOST_DEFINITIONS, read_items};

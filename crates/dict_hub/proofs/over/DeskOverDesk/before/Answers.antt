@@ -2,7 +2,7 @@ use Rattle.std.proofs.Common.{◌<◌, length, refl, ◌∙◌, arith, add-one, 
 use Rattle.std.proofs.Math.ListN.{length-set}
 use Rattle.loader.specs.declared.answers.LoadEnd.{LoadEnd}
 use Rattle.version_slot.proofs.Views.{prefix-chain, prefix-self}
-use Rattle.dict_hub.proofs.Places.{moved_at, views_grow}
+use Rattle.dict_hub.proofs.Places.{moved_at, names-set, views_grow}
 use Rattle.dict_hub.proofs.over.DeskOverDesk.before.Goals as goal
 
 pub loop-d-init : goal.loop-d-init
@@ -10,6 +10,7 @@ loop-d-init g c = record {
   due = refl;
   grows = record { views = λ d. prefix-self _; items = refl };
   many = refl;
+  named = refl;
 }
 
 pub loop-d-preserved : goal.loop-d-preserved
@@ -29,4 +30,6 @@ loop-d-preserved g c =
         items = inv.grows.items;
       };
       many = length-set dicts c.loop-d.d c.load_due.new.self ∙ inv.many;
+      named = names-set (λ x. g.C.DictAt.name (g.C.DictAt.state x)) dicts c.loop-d.d c.index_mut.result.now c.load_due.new.self
+          c.index_mut.ensures.value c.load_due.ensures.named ∙ inv.named;
     }

@@ -1,4 +1,4 @@
-use Rattle.std.proofs.Common.{◌≡◌, length}
+use Rattle.std.proofs.Common.{◌≡◌, length, map}
 use Rattle.dict_session.specs.Facts.{Grows}
 use Rattle.dict_hub.specs.Over.{DueUpTo, children_of, moves_of, over_facts}
 use Rattle.dict_hub.proofs.Places.{state_of}
@@ -18,4 +18,6 @@ invariant-loop-d g l =
       due : DueUpTo moves l.now l.d old new;
       grows : Grows (over_facts g.C.DictAt.view moves) old new;
       many : length l.self.dictionaries.items ≡ length l.initial.self.dictionaries.items;
+      named : map (λ c. g.C.DictAt.name (g.C.DictAt.state c)) l.self.dictionaries.items
+      ≡ map (λ c. g.C.DictAt.name (g.C.DictAt.state c)) l.initial.self.dictionaries.items;
     }

@@ -1,0 +1,196 @@
+-- What a load leaves of a dictionary of one thread.
+use Rattle.std.proofs.Common.{◌≡◌, ◌≤◌, ◌<◌, ◌+◌, ◌∙◌, ◌⊎◌, [], ◌∷◌, ◌++◌, ℕ, List, length, take, refl, sym, ap, subst, inl, inr, arith, Option, Some, None}
+use Rattle.std.specs.Option.{ForSome}
+use Rattle.std.specs.Prelude.{fold}
+use Rattle.std.proofs.lemmas.Bool.{cases_lt}
+use Rattle.std.proofs.Math.ListN.{length-take}
+use mathlib.Core.List.{IsPrefix}
+use Rattle.child_io.specs.declared.pieces.PieceEnd.{PieceEnd}
+use Rattle.dict_schema.specs.declared.definition.Definition.{Definition}
+use Rattle.dict_value.specs.declared.fault.Cause.{Cause}
+use Rattle.dict_value.specs.declared.fault.Cause.TheVariants as cause
+use Rattle.dict_version.specs.Contents.{Contents}
+use Rattle.load_core.specs.DictSteps.{most_loads}
+use Rattle.load_core.specs.declared.dictionary.DictCore.{DictCore}
+use Rattle.loader.proofs.CoreEnds.{added}
+use Rattle.loader.proofs.WholeLoads.{list-left}
+use Rattle.loader.specs.Boards.{BoardTold, posted}
+use Rattle.loader.specs.Loaders.{ArePostings, IsAfter, IsAt, IsLoad, IsSpent, LoaderState, Running, RunsLoad, StartsNone, version_of}
+use Rattle.loader.specs.declared.answers.LoadEnd.{LoadEnd}
+use Rattle.loader.specs.declared.answers.LoadEnd.TheVariants as load
+use Rattle.loader.specs.declared.board.Posting.{Posting}
+use Rattle.loader.specs.declared.board.Posting.TheVariants as post
+use Rattle.version_slot.proofs.Views.{prefix-self}
+use Rattle.dict_hub.specs.Plain.{IsPlain, IsPosted, PostsAll}
+
+-- ---- the same load, of which less is told
+
+are-told : {T : Type 0} (is_told is_told' : T → Type 0) (now : ℕ) (end : LoadEnd) (postings : List (Posting T))
+    → ((told : T) → is_told told → is_told' told) → ArePostings is_told now end postings → ArePostings is_told' now end postings
+are-told is_told is_told' now (load.Published number) postings f (told, is, are) = (told, f told is, are)
+are-told is_told is_told' now load.NoMemory postings f are = are
+are-told is_told is_told' now (load.Failed cause.Start) postings f are = are
+are-told is_told is_told' now (load.Failed cause.Read) postings f are = are
+are-told is_told is_told' now (load.Failed cause.TimedOut) postings f are = are
+are-told is_told is_told' now (load.Failed (cause.Status status)) postings f are = are
+are-told is_told is_told' now (load.Failed cause.Killed) postings f are = are
+are-told is_told is_told' now (load.Failed (cause.Longer limit)) postings f are = are
+are-told is_told is_told' now (load.Failed cause.Rows) postings f are = are
+are-told is_told is_told' now (load.Failed (cause.Row bad)) postings f are = are
+are-told is_told is_told' now (load.Failed (cause.Key number)) postings f are = are
+are-told is_told is_told' now (load.Failed (cause.Prefix row)) postings f are = are
+are-told is_told is_told' now (load.Failed cause.Spent) postings f are = are
+are-told is_told is_told' now (load.Failed cause.NoMemory) postings f are = are
+
+runs-told : (runs runs' : Running) (same same' : Type 0) (d : Definition) (now : ℕ) (folder : List ℕ) (list after : List Contents)
+    (old new : DictCore) (end : LoadEnd)
+    → ((words : List (List ℕ)) (ending : PieceEnd) (pieces : List (List ℕ)) → runs words ending pieces → runs' words ending pieces)
+    → (same → same') → RunsLoad runs d now folder list after old new end ⊎ StartsNone same d now list after old new end
+    → RunsLoad runs' d now folder list after old new end ⊎ StartsNone same' d now list after old new end
+runs-told runs runs' same same' d now folder list after old new end f g (inl r) = inl (record {
+  words = r.words;
+  ending = r.ending;
+  pieces = r.pieces;
+  started = r.started;
+  child = f r.words r.ending r.pieces r.child;
+  comes = r.comes;
+})
+runs-told runs runs' same same' d now folder list after old new end f g (inr n) =
+    inr (record { none = g n.none; ended = n.ended; comes = n.comes })
+
+spent-told : (same same' : Type 0) (list after : List Contents) (old new : DictCore) (end : LoadEnd) → (same → same')
+    → IsSpent same list after old new end → IsSpent same' list after old new end
+spent-told same same' list after old new end g s =
+    record { none = g s.none; ended = s.ended; list_left = s.list_left; core_left = s.core_left }
+
+pub load-told : {T : Type 0} (runs runs' : Running) (same same' : Type 0) (is_told is_told' : T → Type 0)
+    (posts posts' : List (Posting T) → Type 0) (d : Definition) (now : ℕ) (end : LoadEnd) (old new : LoaderState) (list after : List Contents)
+    → ((words : List (List ℕ)) (ending : PieceEnd) (pieces : List (List ℕ)) → runs words ending pieces → runs' words ending pieces)
+    → (same → same') → ((told : T) → is_told told → is_told' told) → ((postings : List (Posting T)) → posts postings → posts' postings)
+    → IsLoad runs same is_told posts d now end old new list after → IsLoad runs' same' is_told' posts' d now end old new list after
+load-told runs runs' same same' is_told is_told' posts posts' d now end old new list after f g h k l = record {
+  run = λ few. runs-told runs runs' same same' d now old.folder list after old.core new.core end f g (l.run few);
+  spent = λ many. spent-told same same' list after old.core new.core end g (l.spent many);
+  state = l.state;
+  stands = l.stands;
+  postings = l.postings;
+  are_postings = are-told is_told is_told' now end l.postings h l.are_postings;
+  posted = k l.postings l.posted;
+}
+
+-- a token of a list that stands for all of it is its length
+pub whole-token : (list : List Contents) (told : ℕ) → told ≤ length list → take told list ≡ list → told ≡ length list
+whole-token list told within whole =
+    let size = sym (length-take told list) ∙ ap length whole in
+    omega (arith, within, size)
+
+-- ---- what a load leaves
+
+module _ (runs : Running) (same : Type 0) (d : Definition) (now : ℕ) (folder : List ℕ) (list after : List Contents) (old new : DictCore) where
+  Comes : LoadEnd → Type 0
+  Comes end = RunsLoad runs d now folder list after old new end ⊎ StartsNone same d now list after old new end
+
+  number-is : (number : ℕ) → Comes (load.Published number) → number ≡ length after
+  number-is number (inl r) = r.comes.ends.3
+  number-is number (inr n) = cc (n.ended)
+
+  list-grows : (end : LoadEnd) → Comes end → IsPrefix list after
+  list-grows (load.Published number) (inl r) = (version_of d r.comes.ends.0 now ∷ [], sym r.comes.ends.2)
+  list-grows (load.Published number) (inr n) = cc (n.ended)
+  list-grows (load.Failed why) r = subst (IsPrefix list) (sym (list-left runs same d now folder list after old new (load.Failed why) refl r)) (prefix-self list)
+  list-grows load.NoMemory r = subst (IsPrefix list) (sym (list-left runs same d now folder list after old new load.NoMemory refl r)) (prefix-self list)
+
+-- the loader's folder and the name stay
+folder-stays : (d : Definition) (now : ℕ) (end : LoadEnd) (old new : LoaderState) → IsAfter d now end old new → new.folder ≡ old.folder
+folder-stays d now (load.Published number) old new h = ap (λ (l : LoaderState). l.folder) h
+folder-stays d now (load.Failed why) old new h = ap (λ (l : LoaderState). l.folder) h
+folder-stays d now load.NoMemory old new h = ap (λ (l : LoaderState). l.folder) h
+
+pub name-stays : (d : Definition) (now : ℕ) (end : LoadEnd) (old new : LoaderState) → d.name ≡ old.definition.name → IsAfter d now end old new
+    → new.definition.name ≡ old.definition.name
+name-stays d now (load.Published number) old new same h = ap (λ (l : LoaderState). l.definition.name) h ∙ same
+name-stays d now (load.Failed why) old new same h = ap (λ (l : LoaderState). l.definition.name) h
+name-stays d now load.NoMemory old new same h = ap (λ (l : LoaderState). l.definition.name) h
+
+-- a board that keeps its newest token and its count
+record Keeps (board later : BoardTold ℕ) : Type 0 where
+  newest : later.newest ≡ board.newest
+  oks : later.oks ≡ board.oks
+
+keeps : (board made later : BoardTold ℕ) → later ≡ made → made.newest ≡ board.newest → made.oks ≡ board.oks → Keeps board later
+keeps board made later is newest oks = record {
+  newest = ap (λ (b : BoardTold ℕ). b.newest) is ∙ newest;
+  oks = ap (λ (b : BoardTold ℕ). b.oks) is ∙ oks;
+}
+
+failed-keeps : (is_told : ℕ → Type 0) (now : ℕ) (why : Cause) (board later : BoardTold ℕ) (postings : List (Posting ℕ))
+    → ArePostings is_told now (load.Failed why) postings → later ≡ fold posted board postings → Keeps board later
+failed-keeps is_told now cause.Start board later postings are is = keeps board _ later (is ∙ ap (fold posted board) are) refl refl
+failed-keeps is_told now cause.Read board later postings are is = keeps board _ later (is ∙ ap (fold posted board) are) refl refl
+failed-keeps is_told now cause.TimedOut board later postings are is = keeps board _ later (is ∙ ap (fold posted board) are) refl refl
+failed-keeps is_told now (cause.Status status) board later postings are is = keeps board _ later (is ∙ ap (fold posted board) are) refl refl
+failed-keeps is_told now cause.Killed board later postings are is = keeps board _ later (is ∙ ap (fold posted board) are) refl refl
+failed-keeps is_told now (cause.Longer limit) board later postings are is = keeps board _ later (is ∙ ap (fold posted board) are) refl refl
+failed-keeps is_told now cause.Rows board later postings are is = keeps board _ later (is ∙ ap (fold posted board) are) refl refl
+failed-keeps is_told now (cause.Row bad) board later postings are is = keeps board _ later (is ∙ ap (fold posted board) are) refl refl
+failed-keeps is_told now (cause.Key number) board later postings are is = keeps board _ later (is ∙ ap (fold posted board) are) refl refl
+failed-keeps is_told now (cause.Prefix row) board later postings are is = keeps board _ later (is ∙ ap (fold posted board) are) refl refl
+failed-keeps is_told now cause.Spent board later postings are is = keeps board _ later (is ∙ ap (fold posted board) are) refl refl
+failed-keeps is_told now cause.NoMemory board later postings are is = keeps board _ later (is ∙ ap (fold posted board) are) refl refl
+
+posted-same : (board later : BoardTold ℕ) (list after : List Contents) → Keeps board later → after ≡ list → IsPosted board list → IsPosted later after
+posted-same board later list after k same p = record {
+  newest = subst (λ newest. ForSome newest (λ number. number ≡ length after)) (sym k.newest)
+      (subst (λ (xs : List Contents). ForSome board.newest (λ number. number ≡ length xs)) (sym same) p.newest);
+  counted = k.oks ∙ p.counted ∙ ap length (sym same);
+}
+
+posted-new : (board later : BoardTold ℕ) (after : List Contents) (now told number : ℕ) → told ≡ length after → number ≡ length after
+    → later ≡ fold posted board (post.Begun ∷ post.Published told number now ∷ []) → IsPosted later after
+posted-new board later after now told number whole count is =
+    subst (λ (b : BoardTold ℕ). IsPosted b after) (sym is) (record { newest = whole; counted = count })
+
+-- ---- a load, by whether any are left
+
+module _ (runs : Running) (same : Type 0) (d : Definition) (now : ℕ) (old new : LoaderState) (list after : List Contents) (board later : BoardTold ℕ) where
+  Load : LoadEnd → Type 0
+  Load end = IsLoad runs same (λ told. told ≡ length after) (PostsAll board later) d now end old new list after
+
+  Left : Type 0
+  Left = (old.core.loads < most_loads) ⊎ (most_loads ≤ old.core.loads)
+
+  grows-by : (end : LoadEnd) → Load end → Left → IsPrefix list after
+  grows-by end l (inl few) = list-grows runs same d now old.folder list after old.core new.core end (l.run few)
+  grows-by end l (inr many) = subst (IsPrefix list) (sym (l.spent many).list_left) (prefix-self list)
+
+  pub load-grows : (end : LoadEnd) → Load end → IsPrefix list after
+  load-grows end l = grows-by end l (cases_lt old.core.loads most_loads)
+
+  left-by : (end : LoadEnd) → added end ≡ 0 → Load end → Left → after ≡ list
+  left-by end none l (inl few) = list-left runs same d now old.folder list after old.core new.core end none (l.run few)
+  left-by end none l (inr many) = (l.spent many).list_left
+
+  number-by : (number : ℕ) → Load (load.Published number) → Left → number ≡ length after
+  number-by number l (inl few) = number-is runs same d now old.folder list after old.core new.core number (l.run few)
+  number-by number l (inr many) = let e = (l.spent many).ended in cc e
+
+  pub load-number : (end : LoadEnd) (number : ℕ) → end ≡ load.Published number → Load end → number ≡ length after
+  load-number end number is l = number-by number (subst Load is l) (cases_lt old.core.loads most_loads)
+
+  posted-by : (end : LoadEnd) → IsPosted board list → Load end → IsPosted later after
+  posted-by (load.Published number) p l =
+      let a = l.are_postings in
+      posted-new board later after now a.0 number a.1 (load-number (load.Published number) number refl l) (l.posted ∙ ap (fold posted board) a.2)
+  posted-by (load.Failed why) p l =
+      posted-same board later list after (failed-keeps (λ told. told ≡ length after) now why board later l.postings l.are_postings l.posted)
+      (left-by (load.Failed why) refl l (cases_lt old.core.loads most_loads)) p
+  posted-by load.NoMemory p l =
+      posted-same board later list after (keeps board _ later (l.posted ∙ ap (fold posted board) l.are_postings) refl refl)
+      (left-by load.NoMemory refl l (cases_lt old.core.loads most_loads)) p
+
+  pub load-plain : (folder : List ℕ) (end : LoadEnd) → IsPlain folder old list board → Load end → IsPlain folder new after later
+  load-plain folder end p l = record {
+    at = l.stands;
+    folder_is = folder-stays d now end old new l.state ∙ p.folder_is;
+    told = posted-by end p.told l;
+  }
