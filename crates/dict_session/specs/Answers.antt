@@ -37,7 +37,8 @@ entering_refused enter.NoMemory = no_memory
 
 -- the number that was seen, at least the one that was asked for
 abbrev pub reach_reply : ℕ → Result (Seen Contents) EnterFault → Reply
-reach_reply number (Ok seen) = if nat_lt seen.number number then Refused (fault.Behind seen.number) else Number seen.number
+reach_reply number (Ok seen) =
+    if nat_lt seen.number number then Refused (fault.Behind seen.number) else Number seen.number
 reach_reply number (Err refusal) = entering_refused refusal
 
 abbrev pub shown_item : Option Item → Reply

@@ -66,7 +66,8 @@ IsRequestAsk items (request.Asked q) ask = IsLookupAsk items q.verb q.name ask
 IsRequestAsk items (request.Reload name) ask = OfDictionary items name load_ask ask
 IsRequestAsk items (request.Status name) ask = OfDictionary items name teach_ask ask
 IsRequestAsk items (request.After name number) ask = OfDictionary items name (reach_ask number) ask
-IsRequestAsk items (request.Show name) ask = (place other : ℕ) × IsFirstMatchOrLen (is_dictionary_named name) items place
+IsRequestAsk items (request.Show name) ask =
+    (place other : ℕ) × IsFirstMatchOrLen (is_dictionary_named name) items place
     × IsFirstMatchOrLen (is_function_named name) items other
     × (ask ≡ show_ask place (slice_get items place) other (slice_get items other))
 IsRequestAsk items request.Config ask = ask ≡ Configure

@@ -42,13 +42,15 @@ IsFreshBy (layout.ComplexCache set) lifetime now m = StillLives lifetime now m
 IsFreshBy _ lifetime now m = m ≡ now
 
 -- one row that was given for the key, fits the dictionary and is fresh
-pub record IsFetched (gave : Definition → List Value → MaybeRow → ℕ → Type 0) (d : Definition) (now : ℕ) (key : List Value) (fetched : FetchedRow) : Type 0 where
+pub record IsFetched (gave : Definition → List Value → MaybeRow → ℕ → Type 0) (d : Definition) (now : ℕ)
+    (key : List Value) (fetched : FetchedRow) : Type 0 where
   pub given : gave d key fetched.row fetched.moment
   pub fits : FitsReply d fetched.row
   pub fresh : IsFreshBy d.layout d.lifetime now fetched.moment
 
 -- one row for each key, in order
-abbrev pub EachFetched : (Definition → List Value → MaybeRow → ℕ → Type 0) → Definition → ℕ → List (List Value) → List FetchedRow → Type 0
+abbrev pub EachFetched : (Definition → List Value → MaybeRow → ℕ → Type 0) → Definition → ℕ → List (List Value)
+    → List FetchedRow → Type 0
 EachFetched gave d now keys rows = AllZip (IsFetched gave d now) keys rows
 
 -- one value of the return type for each row of arguments, in order

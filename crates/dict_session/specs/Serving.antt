@@ -28,7 +28,8 @@ Tells acts place event =
     (e floor : ℕ) → floor_after e floor acts ≤ (if place == e then max floor (told_number event) else floor)
 
 -- a request was answered with at most one call
-pub record Answered {S : Type 0} (facts : Facts S) (s : S) (heard : Heard) (asks : Ask) (now : ℕ) (answer : Answer) (t : S) : Type 0 where
+pub record Answered {S : Type 0} (facts : Facts S) (s : S) (heard : Heard) (asks : Ask) (now : ℕ) (answer : Answer)
+    (t : S) : Type 0 where
   pub calls : List Act
   pub moved : Moved facts s calls t
   pub answers : Answers (facts.items s) heard asks now calls answer.reply

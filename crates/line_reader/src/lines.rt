@@ -47,9 +47,13 @@ impl Model for Lines {
 
     ghost Value = { Held };
 
-    ghost view = { λ r. record { line = take (r.line_to - r.line_from) (drop r.line_from r.buf.items); ahead = take (r.to - r.from) (drop r.from r.buf.items) } };
+    ghost view = { λ r. record {
+      line = take (r.line_to - r.line_from) (drop r.line_from r.buf.items);
+      ahead = take (r.to - r.from) (drop r.from r.buf.items);
+    } };
 
-    ghost invariant = { λ r. (length r.buf.items ≡ 65537) × (r.line_from ≤ r.line_to) × (r.line_to ≤ 65537) × (r.from ≤ r.to) × (r.to ≤ 65537) };
+    ghost invariant = { λ r. (length r.buf.items ≡ 65537) × (r.line_from ≤ r.line_to) × (r.line_to ≤ 65537)
+        × (r.from ≤ r.to) × (r.to ≤ 65537) };
 }
 
 /// Moves a part to the front.
@@ -103,7 +107,8 @@ impl Lines {
 
     /// Cuts the first whole line off the bytes read ahead.
     fn cut(&mut self) -> bool
-        ensures { MatchBool result (IsLine self.new.line × (self.old.ahead ≡ self.new.line ++ LINE_FEED ∷ self.new.ahead))
+        ensures { MatchBool result
+            (IsLine self.new.line × (self.old.ahead ≡ self.new.line ++ LINE_FEED ∷ self.new.ahead))
             ((self.new ≡ self.old) × Lacks LINE_FEED self.old.ahead) }
     {
         match split_at_byte(&self.buf[self.from..self.to], LINE_FEED) {

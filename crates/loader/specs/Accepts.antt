@@ -77,8 +77,8 @@ IsUntaken d rows _ = ⊥
 pub data Refuses (d : Definition) (former : RowList) (output : List ℕ) (why : Cause) : Type 0 where
   undecoded : IsUndecoded d output why → Refuses d former output why
   untaken : (rows : RowList) → DecodesTo d output (Ok rows) → IsUntaken d rows why → Refuses d former output why
-  too_large : (rows : RowList) → HasTakenRows d output rows → LaysTooLarge d.source.update (length d.keys) former rows why
-      → Refuses d former output why
+  too_large : (rows : RowList) → HasTakenRows d output rows
+      → LaysTooLarge d.source.update (length d.keys) former rows why → Refuses d former output why
 
 -- what a whole output gives
 abbrev pub OutputGives : Definition → RowList → List ℕ → Result RowList Cause → Type 0

@@ -89,8 +89,10 @@ pub record RunsOne {S C : Type 0} (scripts : S → Option (List Script)) (starts
     (d : Definition) (old new : S) (words : List (List ℕ)) (ending : PieceEnd) (pieces : List (List ℕ))
     : Type 0 where
   pub told_script : RunTold (scripts old) (scripts new) [] d.max_output ending pieces
-  pub told_words : StartsTold (starts old) words (starts new) ((ending ≡ piece_end.NotStarted) ⊎ (ending ≡ piece_end.NoMemory))
-  pub child : RanChild started told history faults (order_of words [] d.max_output d.source.read_ms) old new ending pieces
+  pub told_words : StartsTold (starts old) words (starts new)
+      ((ending ≡ piece_end.NotStarted) ⊎ (ending ≡ piece_end.NoMemory))
+  pub child :
+      RanChild started told history faults (order_of words [] d.max_output d.source.read_ms) old new ending pieces
 
 -- What a load comes to that read these pieces of a child which ended so: each read brought bytes, within the limit; the
 -- list is as the child's outcome says; and the core takes the events of the load.

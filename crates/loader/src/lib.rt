@@ -8,8 +8,8 @@
 //! that a [`BoardState`] tells the counts, the state and the last cause of the loads that were posted, has the last 64
 //! ends in their order, and lets a viewer learn the newest token that was posted; and that a [`Schedule`] has the exact
 //! deadlines of the loads so far: after a published load one word of the item's own stream picks the seconds from MIN
-//! to MAX, and after failed loads the waits double up to ten minutes. A schedule takes no memory, and of a board only its
-//! making does.
+//! to MAX, and after failed loads the waits double up to ten minutes. A schedule takes no memory, and of a board only
+//! its making does.
 #![tactic(auto)]
 
 mod answers;

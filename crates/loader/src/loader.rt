@@ -241,7 +241,8 @@ impl Loader {
             let runs = RunsOne S.scripts S.starts S.started S.C.told S.C.history S.C.faults d spawner.old
             spawner.new in (before : CoreOf) → core.old ≡ (stepped before Start).core →
             RunsLoad runs d now self.now.folder (P.list publisher.old) (P.list publisher.new) before core.new
-            (load_end_of result) ⊎ StartsNone (spawner.new ≡ spawner.old) d now (P.list publisher.old) (P.list publisher.new)
+            (load_end_of result)
+            ⊎ StartsNone (spawner.new ≡ spawner.old) d now (P.list publisher.old) (P.list publisher.new)
             before core.new (load_end_of result) }
         ensures cause { HasCause (S.start_faults spawner.old) (S.start_faults spawner.new)
             (IsErrOf result (LoadFault.Refused Cause.Start)) }
@@ -298,8 +299,9 @@ impl Loader {
             → B.takes board.old told }
         ensures load { let d = definition_by other self.old.definition in
             let runs = RunsOne S.scripts S.starts S.started S.C.told S.C.history S.C.faults d spawner.old spawner.new in
-            let is_told = (λ (told : P.Told). P.is_of publisher.new told × (P.told_list publisher.new told ≡ P.list publisher.new))
-            in let posts = (λ (postings : List (PostingOf P.Told)). (first : B) (before : List (PostingOf P.Told)) →
+            let is_told = (λ (told : P.Told).
+            P.is_of publisher.new told × (P.told_list publisher.new told ≡ P.list publisher.new)) in
+            let posts = (λ (postings : List (PostingOf P.Told)). (first : B) (before : List (PostingOf P.Told)) →
             B.posts first before board.old → B.posts first (before ++ postings) board.new) in
             IsLoad runs (spawner.new ≡ spawner.old) is_told posts d now result self.old self.new
             (P.list publisher.old) (P.list publisher.new) }
@@ -352,8 +354,9 @@ impl Loader {
             → B.takes board.old told }
         ensures load { let d = self.old.definition in
             let runs = RunsOne S.scripts S.starts S.started S.C.told S.C.history S.C.faults d spawner.old spawner.new in
-            let is_told = (λ (told : P.Told). P.is_of publisher.new told × (P.told_list publisher.new told ≡ P.list publisher.new))
-            in let posts = (λ (postings : List (PostingOf P.Told)). (first : B) (before : List (PostingOf P.Told)) →
+            let is_told = (λ (told : P.Told).
+            P.is_of publisher.new told × (P.told_list publisher.new told ≡ P.list publisher.new)) in
+            let posts = (λ (postings : List (PostingOf P.Told)). (first : B) (before : List (PostingOf P.Told)) →
             B.posts first before board.old → B.posts first (before ++ postings) board.new) in
             IsLoad runs (spawner.new ≡ spawner.old) is_told posts d now result self.old self.new
             (P.list publisher.old) (P.list publisher.new) }
@@ -386,8 +389,9 @@ impl Loader {
             × (publisher.new ≡ publisher.old) × (board.new ≡ board.old) }
         ensures load { let d = self.old.definition in
             let runs = RunsOne S.scripts S.starts S.started S.C.told S.C.history S.C.faults d spawner.old spawner.new in
-            let is_told = (λ (told : P.Told). P.is_of publisher.new told × (P.told_list publisher.new told ≡ P.list publisher.new))
-            in let posts = (λ (postings : List (PostingOf P.Told)). (first : B) (before : List (PostingOf P.Told)) →
+            let is_told = (λ (told : P.Told).
+            P.is_of publisher.new told × (P.told_list publisher.new told ≡ P.list publisher.new)) in
+            let posts = (λ (postings : List (PostingOf P.Told)). (first : B) (before : List (PostingOf P.Told)) →
             B.posts first before board.old → B.posts first (before ++ postings) board.new) in
             IfSome result (λ end. IsLoad runs (spawner.new ≡ spawner.old) is_told posts d now end self.old self.new
             (P.list publisher.old) (P.list publisher.new)) }
@@ -425,8 +429,9 @@ impl Loader {
             → B.takes board.old told }
         ensures load { let runs = RunsOne S.scripts S.starts S.started S.C.told S.C.history S.C.faults d spawner.old
             spawner.new in
-            let is_told = (λ (told : P.Told). P.is_of publisher.new told × (P.told_list publisher.new told ≡ P.list publisher.new))
-            in let posts = (λ (postings : List (PostingOf P.Told)). (first : B) (before : List (PostingOf P.Told)) →
+            let is_told = (λ (told : P.Told).
+            P.is_of publisher.new told × (P.told_list publisher.new told ≡ P.list publisher.new)) in
+            let posts = (λ (postings : List (PostingOf P.Told)). (first : B) (before : List (PostingOf P.Told)) →
             B.posts first before board.old → B.posts first (before ++ postings) board.new) in
             IsLoad runs (spawner.new ≡ spawner.old) is_told posts d now result self.old self.new
             (P.list publisher.old) (P.list publisher.new) }

@@ -154,8 +154,8 @@ pub(crate) fn run_load<C: Counter, S: Spawner, P: Publisher<V = Version<C>>>(
     requires fact { (list : List Contents) (v : Contents) → HasOrigin S.ran folder.now list v → P.allows list v }
     ensures run { let runs = RunsOne S.scripts S.starts S.started S.C.told S.C.history S.C.faults d.now spawner.old
         spawner.new in (before : CoreOf) → core.old ≡ (stepped before Start).core →
-        RunsLoad runs d.now now folder.now (P.list publisher.old) (P.list publisher.new) before core.new (load_end_of result)
-        ⊎ StartsNone (spawner.new ≡ spawner.old) d.now now (P.list publisher.old) (P.list publisher.new) before core.new
+        RunsLoad runs d.now now folder.now (P.list publisher.old) (P.list publisher.new) before core.new
+        (load_end_of result) ⊎ StartsNone (spawner.new ≡ spawner.old) d.now now (P.list publisher.old) (P.list publisher.new) before core.new
         (load_end_of result) }
     ensures cause { HasCause (S.start_faults spawner.old) (S.start_faults spawner.new)
         (IsErrOf result (LoadFault.Refused Cause.Start)) }

@@ -88,11 +88,14 @@ IsLargeAs first asking = (lines : List (List ℕ)) (count : ℕ) (behind : List 
 
 -- what a block asks for whose further lines were kept so
 abbrev pub BlockReads : List ℕ → ℕ → Further → Bool → Asking → Type 0
-BlockReads first count further all asking = (lines : List (List ℕ)) (behind : List ℕ) → Keeps further lines (length behind)
-    → (all ≡ true → length lines ≡ count) → (all ≡ false → length lines < count) → IsHeardAs first lines count behind asking
+BlockReads first count further all asking =
+    (lines : List (List ℕ)) (behind : List ℕ) → Keeps further lines (length behind)
+    → (all ≡ true → length lines ≡ count) → (all ≡ false → length lines < count)
+    → IsHeardAs first lines count behind asking
 
 -- further lines were taken, as many as should follow or all that there are
-pub record IsMore (closed : Bool) (next : Option (List ℕ)) (count : ℕ) (further : Further) (lines : List (List ℕ)) (ahead : List ℕ) (left : Option (List ℕ)) : Type 0 where
+pub record IsMore (closed : Bool) (next : Option (List ℕ)) (count : ℕ) (further : Further) (lines : List (List ℕ))
+    (ahead : List ℕ) (left : Option (List ℕ)) : Type 0 where
   pub behind : List ℕ
   pub known : next ≡ prepend_known (behind ++ ahead) left
   pub stand : FirstLines closed count behind lines []
@@ -104,9 +107,11 @@ MoreFor next count (more.All further) ahead left =
 MoreFor next count (more.Closed further all) ahead left =
     (lines : List (List ℕ)) × IsMore true next count further lines ahead left × (ahead ≡ []) × NothingLeft left
     × (all ≡ true → length lines ≡ count) × (all ≡ false → length lines < count)
-MoreFor next count more.TooLong ahead left = (lines : List (List ℕ)) × AllByRecursion IsLine lines × (length lines < count)
+MoreFor next count more.TooLong ahead left =
+    (lines : List (List ℕ)) × AllByRecursion IsLine lines × (length lines < count)
     × IsLong ahead × (next ≡ prepend_known (fed lines ++ ahead) left)
-MoreFor next count more.Failed ahead left = (lines : List (List ℕ)) × AllByRecursion IsLine lines × (length lines < count)
+MoreFor next count more.Failed ahead left =
+    (lines : List (List ℕ)) × AllByRecursion IsLine lines × (length lines < count)
     × IsLine ahead × (next ≡ prepend_known (fed lines ++ ahead) left)
 
 abbrev pub more_is_closed : More → Bool
@@ -115,7 +120,8 @@ more_is_closed (more.Closed further all) = true
 more_is_closed more.TooLong = false
 more_is_closed more.Failed = false
 
-pub record Furthers (ahead : List ℕ) (old : Ends) (count : ℕ) (read : More) (ahead' : List ℕ) (new : Ends) : Type 0 where
+pub record Furthers (ahead : List ℕ) (old : Ends) (count : ℕ) (read : More) (ahead' : List ℕ) (new : Ends)
+    : Type 0 where
   pub lines : MoreFor (prepend_known ahead old.reads.known) count read ahead' new.reads.known
   pub ended : new.reads.ended ≡ more_is_closed read
   pub cause : HasCause old.reads.faults new.reads.faults (read ≡ more.Failed)
