@@ -5,6 +5,9 @@ use Rattle.std.specs.Prelude.{fold}
 use Rattle.std.proofs.lemmas.Bool.{cases_lt}
 use Rattle.std.proofs.Math.ListN.{length-take}
 use mathlib.Core.List.{IsPrefix}
+use Rattle.child_io.specs.Calls.{History}
+use Rattle.child_io.specs.Told.{Told}
+use Rattle.child_io.specs.declared.child.Script.{Script}
 use Rattle.child_io.specs.declared.pieces.PieceEnd.{PieceEnd}
 use Rattle.dict_schema.specs.declared.definition.Definition.{Definition}
 use Rattle.dict_value.specs.declared.fault.Cause.{Cause}
@@ -15,13 +18,15 @@ use Rattle.load_core.specs.declared.dictionary.DictCore.{DictCore}
 use Rattle.loader.proofs.CoreEnds.{added}
 use Rattle.loader.proofs.WholeLoads.{list-left}
 use Rattle.loader.specs.Boards.{BoardTold, posted}
-use Rattle.loader.specs.Loaders.{ArePostings, IsAfter, IsAt, IsLoad, IsSpent, LoaderState, Running, RunsLoad, StartsNone, version_of}
+use Rattle.loader.specs.Loaders.{ArePostings, IsAfter, IsAt, IsLoad, IsSpent, LoaderState, Running, RunsLoad, RunsOne, StartsNone, version_of}
 use Rattle.loader.specs.declared.answers.LoadEnd.{LoadEnd}
 use Rattle.loader.specs.declared.answers.LoadEnd.TheVariants as load
 use Rattle.loader.specs.declared.board.Posting.{Posting}
 use Rattle.loader.specs.declared.board.Posting.TheVariants as post
 use Rattle.version_slot.proofs.Views.{prefix-self}
-use Rattle.dict_hub.specs.Plain.{IsPlain, IsPosted, PostsAll}
+use Rattle.version_slot.specs.Views.{HasEntries, first_entries}
+use Rattle.dict_hub.specs.Over.{Children, children_of}
+use Rattle.dict_hub.specs.Plain.{IsPlain, IsPosted, PlainLoads, PlainState, PostsAll, plain_state}
 
 -- ---- the same load, of which less is told
 
@@ -154,7 +159,7 @@ posted-new board later after now told number whole count is =
 
 module _ (runs : Running) (same : Type 0) (d : Definition) (now : ℕ) (old new : LoaderState) (list after : List Contents) (board later : BoardTold ℕ) where
   Load : LoadEnd → Type 0
-  Load end = IsLoad runs same (λ told. told ≡ length after) (PostsAll board later) d now end old new list after
+  Load end = IsLoad runs same (λ (told : ℕ). told ≡ length after) (PostsAll board later) d now end old new list after
 
   Left : Type 0
   Left = (old.core.loads < most_loads) ⊎ (most_loads ≤ old.core.loads)
@@ -182,7 +187,7 @@ module _ (runs : Running) (same : Type 0) (d : Definition) (now : ℕ) (old new 
       let a = l.are_postings in
       posted-new board later after now a.0 number a.1 (load-number (load.Published number) number refl l) (l.posted ∙ ap (fold posted board) a.2)
   posted-by (load.Failed why) p l =
-      posted-same board later list after (failed-keeps (λ told. told ≡ length after) now why board later l.postings l.are_postings l.posted)
+      posted-same board later list after (failed-keeps (λ (told : ℕ). told ≡ length after) now why board later l.postings l.are_postings l.posted)
       (left-by (load.Failed why) refl l (cases_lt old.core.loads most_loads)) p
   posted-by load.NoMemory p l =
       posted-same board later list after (keeps board _ later (l.posted ∙ ap (fold posted board) l.are_postings) refl refl)
@@ -194,3 +199,40 @@ module _ (runs : Running) (same : Type 0) (d : Definition) (now : ℕ) (old new 
     folder_is = folder-stays d now end old new l.state ∙ p.folder_is;
     told = posted-by end p.told l;
   }
+
+-- ---- the load of a loader, as one of a dictionary
+
+-- what a load leaves of a dictionary
+pub record Leaves (folder : List ℕ) (d : Definition) (from : PlainState) (before : Children) (now : ℕ) (end : LoadEnd) (to : PlainState)
+    (after : Children) : Type 0 where
+  pub load : PlainLoads d from before now end to after
+  pub plain : IsPlain folder to.loader to.list to.board
+  pub grows : IsPrefix from.list to.list
+  pub named : d.name ≡ from.loader.definition.name → to.loader.definition.name ≡ from.loader.definition.name
+  pub learnt : (number : ℕ) → end ≡ load.Published number → number ≤ length to.list
+
+pub leaves : {S C : Type 0} (scripts : S → Option (List Script)) (starts : S → Option (List (List (List ℕ))))
+    (started : S → List (List ℕ) → C → S → Type 0) (told : C → Option Told) (history : History C) (faults : C → ℕ)
+    (d : Definition) (now : ℕ) (spawner later_spawner : S) (old new : LoaderState) (list after : List Contents) (board later : BoardTold ℕ)
+    (folder : List ℕ) (end : LoadEnd) → IsPlain folder old list board
+    → IsLoad (RunsOne scripts starts started told history faults d spawner later_spawner) (later_spawner ≡ spawner)
+    (λ (t : ℕ). HasEntries after t × (first_entries after t ≡ after))
+    (λ (postings : List (Posting ℕ)). (first : BoardTold ℕ) (before : List (Posting ℕ)) → board ≡ fold posted first before → later ≡ fold posted first (before ++ postings))
+    d now end old new list after
+    → Leaves folder d (plain_state old list board) (children_of scripts starts spawner) now end (plain_state new after later)
+    (children_of scripts starts later_spawner)
+leaves scripts starts started told history faults d now spawner later_spawner old new list after board later folder end p l =
+    let loaded : PlainLoads d (plain_state old list board) (children_of scripts starts spawner) now end (plain_state new after later) (children_of scripts starts later_spawner) =
+        load-told _ _ _ _ _ _ _ _ d now end old new list after
+        (λ words ending pieces r. record { script = r.told_script; words_told = r.told_words })
+        (λ same. ap (children_of scripts starts) same)
+        (λ t is. whole-token after t is.0 is.1)
+        (λ postings posts. posts board [] refl)
+        l in
+    record {
+      load = loaded;
+      plain = load-plain _ _ d now old new list after board later folder end p loaded;
+      grows = load-grows _ _ d now old new list after board later end loaded;
+      named = λ same. name-stays d now end old new same l.state;
+      learnt = λ number is. let e = load-number _ _ d now old new list after board later end number is loaded in omega (arith, e);
+    }

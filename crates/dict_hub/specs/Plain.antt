@@ -10,7 +10,7 @@ use Rattle.dict_schema.specs.declared.definition.Item.{Item}
 use Rattle.dict_schema.specs.declared.definition.Item.TheVariants.{Dictionary, Function}
 use Rattle.dict_version.specs.Contents.{Contents}
 use Rattle.loader.specs.Boards.{BoardTold, empty_board, posted, row_of}
-use Rattle.loader.specs.Loaders.{IsAt, IsLoad, LoaderState, Running, new_loader}
+use Rattle.loader.specs.Loaders.{IsAt, IsLoad, LoaderState, new_loader}
 use Rattle.loader.specs.Timing.{IsDue}
 use Rattle.loader.specs.declared.answers.LoadEnd.{LoadEnd}
 use Rattle.loader.specs.declared.answers.StatusRow.{StatusRow}
@@ -57,7 +57,7 @@ PostsAll old new postings = new ≡ fold posted old postings
 -- one load with a definition, of the loader, the list, the children and the board as one whole
 abbrev pub PlainLoads : Definition → PlainState → Children → ℕ → LoadEnd → PlainState → Children → Type 0
 PlainLoads d from before now end to after =
-    IsLoad (RunsTold d before after) (after ≡ before) (λ told. told ≡ length to.list) (PostsAll from.board to.board)
+    IsLoad (RunsTold d before after) (after ≡ before) (λ (told : ℕ). told ≡ length to.list) (PostsAll from.board to.board)
     d now end from.loader to.loader from.list to.list
 
 -- an entering gives the newest version; it lacks only where the handles of a version can't be counted any more
