@@ -1,5 +1,5 @@
 -- The dictionaries of items before their first loads.
-use Rattle.std.proofs.Common.{◌≡◌, ◌<◌, ◌+◌, ◌∙◌, ℕ, zero, suc, List, [], ◌∷◌, ◌++◌, map, length, take, get_or, refl, sym, ap, subst, arith}
+use Rattle.std.proofs.Common.{◌≡◌, ◌<◌, ◌+◌, ◌∙◌, ℕ, zero, suc, List, [], ◌∷◌, ◌++◌, map, length, take, get_or, refl, sym, ap, subst, arith, add-one}
 use Rattle.std.specs.List.{All}
 use Rattle.dict_schema.specs.declared.definition.Item.{Item}
 use Rattle.dict_schema.specs.declared.definition.Item.TheVariants.{Dictionary, Function}
@@ -26,6 +26,15 @@ opened-more folder seed number (Function f ∷ xs) (suc place) item lt is =
     let more = opened-more folder seed (suc number) xs place item (omega (arith, lt)) is in
     let moved : opened folder seed (suc number + place) (item ∷ []) ≡ opened folder seed (number + suc place) (item ∷ []) = ap (λ (n : ℕ). opened folder seed n (item ∷ [])) same in
     more ∙ ap (λ (ys : List PlainState). opened folder seed (suc number) (take place xs) ++ ys) moved
+
+-- the same of a first item 0
+pub opened-next : (folder : List ℕ) (seed : ℕ) (items : List Item) (place : ℕ) (item : Item) → place < length items → item ≡ get_or items place item
+    → opened folder seed 0 (take (place + 1) items) ≡ opened folder seed 0 (take place items) ++ opened folder seed place (item ∷ [])
+opened-next folder seed items place item lt is =
+    let same : 0 + place ≡ place = omega arith in
+    let more = opened-more folder seed 0 items place item lt is in
+    let moved = ap (λ (n : ℕ). opened folder seed 0 (take place items) ++ opened folder seed n (item ∷ [])) same in
+    rw add-one (more ∙ moved)
 
 -- each has the name of its item
 pub opened-named : (folder : List ℕ) (seed number : ℕ) (items : List Item) → All IsLoaded items

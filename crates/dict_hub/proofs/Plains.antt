@@ -1,7 +1,7 @@
 -- What a load leaves of a dictionary of one thread.
-use Rattle.std.proofs.Common.{◌≡◌, ◌≤◌, ◌<◌, ◌+◌, ◌∙◌, ◌⊎◌, [], ◌∷◌, ◌++◌, ℕ, List, length, take, refl, sym, ap, subst, inl, inr, arith, Option, Some, None}
+use Rattle.std.proofs.Common.{◌≡◌, ◌≤◌, ◌<◌, ◌+◌, ◌∙◌, ◌⊎◌, [], ◌∷◌, ◌++◌, ℕ, List, length, take, refl, sym, ap, subst, inl, inr, arith, rules, Option, Some, None}
 use Rattle.std.specs.Option.{ForSome}
-use Rattle.std.specs.Prelude.{fold}
+use Rattle.std.specs.Prelude.{◌↔◌, IfSome, IsSome, fold}
 use Rattle.std.proofs.lemmas.Bool.{cases_lt}
 use Rattle.std.proofs.Math.ListN.{length-take}
 use mathlib.Core.List.{IsPrefix}
@@ -19,6 +19,7 @@ use Rattle.loader.proofs.CoreEnds.{added}
 use Rattle.loader.proofs.WholeLoads.{list-left}
 use Rattle.loader.specs.Boards.{BoardTold, posted}
 use Rattle.loader.specs.Loaders.{ArePostings, IsAfter, IsAt, IsLoad, IsSpent, LoaderState, Running, RunsLoad, RunsOne, StartsNone, version_of}
+use Rattle.loader.specs.Timing.{IsDue}
 use Rattle.loader.specs.declared.answers.LoadEnd.{LoadEnd}
 use Rattle.loader.specs.declared.answers.LoadEnd.TheVariants as load
 use Rattle.loader.specs.declared.board.Posting.{Posting}
@@ -26,7 +27,7 @@ use Rattle.loader.specs.declared.board.Posting.TheVariants as post
 use Rattle.version_slot.proofs.Views.{prefix-self}
 use Rattle.version_slot.specs.Views.{HasEntries, first_entries}
 use Rattle.dict_hub.specs.Over.{Children, children_of}
-use Rattle.dict_hub.specs.Plain.{IsPlain, IsPosted, PlainLoads, PlainState, PostsAll, plain_state}
+use Rattle.dict_hub.specs.Plain.{IsPlain, IsPosted, PlainDue, PlainLoads, PlainState, PostsAll, plain_state}
 
 -- ---- the same load, of which less is told
 
@@ -92,7 +93,7 @@ whole-token list told within whole =
 -- ---- what a load leaves
 
 module _ (runs : Running) (same : Type 0) (d : Definition) (now : ℕ) (folder : List ℕ) (list after : List Contents) (old new : DictCore) where
-  Comes : LoadEnd → Type 0
+  abbrev pub Comes : LoadEnd → Type 0
   Comes end = RunsLoad runs d now folder list after old new end ⊎ StartsNone same d now list after old new end
 
   number-is : (number : ℕ) → Comes (load.Published number) → number ≡ length after
@@ -153,15 +154,17 @@ posted-same board later list after k same p = record {
 posted-new : (board later : BoardTold ℕ) (after : List Contents) (now told number : ℕ) → told ≡ length after → number ≡ length after
     → later ≡ fold posted board (post.Begun ∷ post.Published told number now ∷ []) → IsPosted later after
 posted-new board later after now told number whole count is =
-    subst (λ (b : BoardTold ℕ). IsPosted b after) (sym is) (record { newest = whole; counted = count })
+    subst (λ (b : BoardTold ℕ). IsPosted b after) (sym is) (record { newest = λ x e. whole-by x e; counted = count }) where
+      whole-by : (x : ℕ) → Some told ≡ Some x → x ≡ length after
+      whole-by x e = let same : told ≡ x = cc e in sym same ∙ whole
 
 -- ---- a load, by whether any are left
 
 module _ (runs : Running) (same : Type 0) (d : Definition) (now : ℕ) (old new : LoaderState) (list after : List Contents) (board later : BoardTold ℕ) where
-  Load : LoadEnd → Type 0
+  abbrev pub Load : LoadEnd → Type 0
   Load end = IsLoad runs same (λ (told : ℕ). told ≡ length after) (PostsAll board later) d now end old new list after
 
-  Left : Type 0
+  abbrev pub Left : Type 0
   Left = (old.core.loads < most_loads) ⊎ (most_loads ≤ old.core.loads)
 
   grows-by : (end : LoadEnd) → Load end → Left → IsPrefix list after
@@ -205,7 +208,7 @@ module _ (runs : Running) (same : Type 0) (d : Definition) (now : ℕ) (old new 
 -- what a load leaves of a dictionary
 pub record Leaves (folder : List ℕ) (d : Definition) (from : PlainState) (before : Children) (now : ℕ) (end : LoadEnd) (to : PlainState)
     (after : Children) : Type 0 where
-  pub load : PlainLoads d from before now end to after
+  pub acted : PlainLoads d from before now end to after
   pub plain : IsPlain folder to.loader to.list to.board
   pub grows : IsPrefix from.list to.list
   pub named : d.name ≡ from.loader.definition.name → to.loader.definition.name ≡ from.loader.definition.name
@@ -223,16 +226,56 @@ pub leaves : {S C : Type 0} (scripts : S → Option (List Script)) (starts : S �
     (children_of scripts starts later_spawner)
 leaves scripts starts started told history faults d now spawner later_spawner old new list after board later folder end p l =
     let loaded : PlainLoads d (plain_state old list board) (children_of scripts starts spawner) now end (plain_state new after later) (children_of scripts starts later_spawner) =
-        load-told _ _ _ _ _ _ _ _ d now end old new list after
-        (λ words ending pieces r. record { script = r.told_script; words_told = r.told_words })
-        (λ same. ap (children_of scripts starts) same)
-        (λ t is. whole-token after t is.0 is.1)
-        (λ postings posts. posts board [] refl)
-        l in
+    load-told _ _ _ _ _ _ _ _ d now end old new list after
+    (λ words ending pieces r. record { script = r.told_script; words_told = r.told_words })
+    (λ same. ap (children_of scripts starts) same)
+    (λ t is. whole-token after t is.0 is.1)
+    (λ postings posts. posts board [] refl)
+    l in
     record {
-      load = loaded;
+      acted = loaded;
       plain = load-plain _ _ d now old new list after board later folder end p loaded;
       grows = load-grows _ _ d now old new list after board later end loaded;
       named = λ same. name-stays d now end old new same l.state;
       learnt = λ number is. let e = load-number _ _ d now old new list after board later end number is loaded in omega (arith, e);
+    }
+
+-- ---- a load where one is due
+
+some-is : {T : Type 0} (x : T) → IsSome (Some x)
+some-is x = search rules
+
+none-not : {T : Type 0} → IsSome {T} None → ⊥
+none-not h = search rules
+
+-- the same of a load where one was due, and nothing else
+pub record LeavesDue (folder : List ℕ) (from : PlainState) (before : Children) (now : ℕ) (result : Option LoadEnd) (to : PlainState)
+    (after : Children) : Type 0 where
+  pub acted : PlainDue from before now result to after
+  pub plain : IsPlain folder to.loader to.list to.board
+  pub grows : IsPrefix from.list to.list
+
+pub leaves-due : {S C : Type 0} (scripts : S → Option (List Script)) (starts : S → Option (List (List (List ℕ))))
+    (started : S → List (List ℕ) → C → S → Type 0) (told : C → Option Told) (history : History C) (faults : C → ℕ)
+    (now : ℕ) (spawner later_spawner : S) (old new : LoaderState) (list after : List Contents) (board later : BoardTold ℕ)
+    (folder : List ℕ) (result : Option LoadEnd) → IsPlain folder old list board → (IsSome result ↔ IsDue old.timing now)
+    → (result ≡ None → (new ≡ old) × (later_spawner ≡ spawner) × (after ≡ list) × (later ≡ board))
+    → IfSome result (λ end. IsLoad (RunsOne scripts starts started told history faults old.definition spawner later_spawner) (later_spawner ≡ spawner)
+    (λ (t : ℕ). HasEntries after t × (first_entries after t ≡ after))
+    (λ (postings : List (Posting ℕ)). (first : BoardTold ℕ) (before : List (Posting ℕ)) → board ≡ fold posted first before → later ≡ fold posted first (before ++ postings))
+    old.definition now end old new list after)
+    → LeavesDue folder (plain_state old list board) (children_of scripts starts spawner) now result (plain_state new after later)
+    (children_of scripts starts later_spawner)
+leaves-due scripts starts started told history faults now spawner later_spawner old new list after board later folder (Some end) p due none l =
+    let left = leaves scripts starts started told history faults old.definition now spawner later_spawner old new list after board later folder end p l in
+    record { acted = (due.0 (some-is end), left.acted); plain = left.plain; grows = left.grows }
+leaves-due scripts starts started told history faults now spawner later_spawner old new list after board later folder None p due none l =
+    let e = none refl in
+    let same : plain_state new after later ≡ plain_state old list board =
+    ap (λ (n : LoaderState). plain_state n after later) e.0 ∙ ap (λ (a : List Contents). plain_state old a later) e.2
+    ∙ ap (λ (b : BoardTold ℕ). plain_state old list b) e.3 in
+    record {
+      acted = ((λ d. none-not (due.1 d)), same, ap (children_of scripts starts) e.1);
+      plain = subst (λ (x : PlainState). IsPlain folder x.loader x.list x.board) (sym same) p;
+      grows = subst (IsPrefix list) (sym e.2) (prefix-self list);
     }

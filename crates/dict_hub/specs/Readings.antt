@@ -24,7 +24,7 @@ pub record IsRefused (text : List ℕ) (line place : ℕ) (words : List ℕ) : T
 -- what a text within the limit gives: its items, or why it has none
 abbrev pub TextGives : List ℕ → Result (List Item) ConfigEnd → Type 0
 TextGives text (Ok items) = TextDefines text items
-TextGives text (Err (Refused line place words)) = IsRefused text line place words
+TextGives text (Err (Refused line place words)) = IsRefused text line place words.now
 TextGives text (Err NoMemory) = Unit {0}
 TextGives text (Err _) = ⊥
 

@@ -14,8 +14,6 @@ mod over;
 mod parts;
 mod plain;
 mod reading;
-#[cfg(test)]
-mod tests;
 
 pub use following::Counts;
 pub use items::{Items, are_loaded};

@@ -19,8 +19,12 @@ use loader::Folder;
 use std::alloc::Global;
 
 /// A desk of one thread. What it loads is due before each request, and all that it meets outside is lent to it.
-pub type LocalDesk<'a, S, K, H, F> =
-    DeskOver<&'a mut S, &'a mut K, PlainDict<&'a mut S, F>, DefinitionsFile<'a, &'a mut H>>;
+pub type LocalDesk<'a, S, K, H, F> = DeskOver<
+    &'a mut S,
+    &'a mut K,
+    PlainDict<&'a mut S, F>,
+    DefinitionsFile<'a, &'a mut H>,
+>;
 
 /// The dictionary of an item, before its first load.
 fn open<S: Spawner, F: Folder>(
@@ -88,12 +92,5 @@ pub fn local_desk<'a, S: Spawner, K: Clock, H: Shelf, F: Folder>(
     let dictionaries = open_each(alloc, items.as_slice(), folder, seed)?;
     let file = DefinitionsFile::new(shelf, file);
     let items = Items::new(items);
-    Ok(DeskOver::new(
-        spawner,
-        clock,
-        file,
-        items,
-        dictionaries,
-        true,
-    ))
+    Ok(DeskOver::new(spawner, clock, file, items, dictionaries, true))
 }

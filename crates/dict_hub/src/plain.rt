@@ -2,6 +2,9 @@
 ghost use Rattle.std.specs.Prelude.{◌≡◌, ◌≤◌, List, ℕ, IfErr, IfOk, false};
 ghost use Rattle.dict_hub.specs.Plain.{PlainDue, PlainEntered, PlainJudged, PlainLoaded, PlainLoadedAs, PlainState};
 ghost use Rattle.dict_hub.specs.Plain.{PlainTaught, new_plain};
+ghost use Rattle.dict_version.specs.Contents.{Contents};
+ghost use Rattle.loader.specs.Origins.{HasOrigin};
+ghost use Rattle.version_slot.specs.Views.{HasEntries, first_entries};
 ghost use Rattle.dict_schema.specs.Parts.{is_keyed_layout};
 ghost use Rattle.dict_schema.specs.Sound.{IsSound};
 
@@ -13,13 +16,49 @@ use dict_version::Version;
 use loader::{BoardState, Folder, LoadEnd, Loader, OriginOf, StatusRow};
 use std::alloc::Global;
 use std::marker::Model;
-use version_slot::{EnterFault, PlainSlot, PlainToken, Seen, Viewer};
+use version_slot::{End, EnterFault, PlainSlot, PlainToken, Seen, Viewer};
+
+/// A slot as its one viewer. What names the slot is its list: to leave the slot is to leave the list.
+#[derive(Drop)]
+pub(crate) struct PlainView<S: Spawner, F: Folder> {
+    slot: PlainSlot<Version<Uncounted>, OriginOf<S, F>>,
+}
+
+impl<S: Spawner, F: Folder> End for PlainView<S, F> {
+    type V = Version<Uncounted>;
+
+    type Told = PlainToken;
+
+    ghost Slot = { List Contents };
+
+    ghost slot = { λ it. it.slot };
+
+    ghost list = { λ it. it.slot };
+
+    ghost allows = { HasOrigin S.ran F.folder };
+
+    ghost is_of = { λ it. HasEntries it.slot };
+
+    ghost told_list = { λ it. first_entries it.slot };
+}
+
+impl<S: Spawner, F: Folder> Viewer for PlainView<S, F> {
+    ghost refusals = { λ _. 0 };
+
+    fn enter(&mut self) -> Result<Seen<Version<Uncounted>>, EnterFault> {
+        self.slot.enter()
+    }
+
+    fn learn(&mut self, told: &mut PlainToken) {
+        self.slot.learn(told)
+    }
+}
 
 /// What loads a dictionary, the list of its versions, and its board. Its programs lie in the folder that F names.
 #[derive(Drop)]
 pub struct PlainDict<S: Spawner, F: Folder> {
     loader: Loader,
-    slot: PlainSlot<Version<Uncounted>, OriginOf<S, F>>,
+    view: PlainView<S, F>,
     board: BoardState<PlainToken>,
 }
 
@@ -28,9 +67,9 @@ impl<S: Spawner, F: Folder> Model for PlainDict<S, F> {
 
     ghost Value = { PlainState };
 
-    ghost view = { λ it. plain_state it.loader it.slot it.board };
+    ghost view = { λ it. plain_state it.loader it.view.slot it.board };
 
-    ghost invariant = { λ it. IsPlain F.folder it.loader it.slot it.board };
+    ghost invariant = { λ it. IsPlain F.folder it.loader it.view.slot it.board };
 }
 
 impl<S: Spawner, F: Folder> PlainDict<S, F> {
@@ -52,7 +91,9 @@ impl<S: Spawner, F: Folder> PlainDict<S, F> {
         let board = BoardState::new(alloc)?;
         Ok(PlainDict {
             loader,
-            slot: PlainSlot::new(alloc),
+            view: PlainView {
+                slot: PlainSlot::new(alloc),
+            },
             board,
         })
     }
@@ -82,21 +123,21 @@ impl<S: Spawner, F: Folder> DictAt<S> for PlainDict<S, F> {
     ghost refusals = { λ _. 0 };
 
     fn enter(&mut self) -> Result<Seen<Version<Uncounted>>, EnterFault> {
-        self.slot.enter()
+        self.view.slot.enter()
     }
 
     fn teach(&mut self) -> StatusRow {
-        self.board.teach(&mut self.slot)
+        self.board.teach(&mut self.view)
     }
 
     fn load(&mut self, alloc: Global, spawner: &mut S, now: u64) -> LoadEnd {
         self.loader
-            .load(alloc, spawner, &mut self.slot, now, &mut self.board)
+            .load(alloc, spawner, &mut self.view.slot, now, &mut self.board)
     }
 
     fn load_due(&mut self, alloc: Global, spawner: &mut S, now: u64) -> Option<LoadEnd> {
         self.loader
-            .load_due(alloc, spawner, &mut self.slot, now, &mut self.board)
+            .load_due(alloc, spawner, &mut self.view.slot, now, &mut self.board)
     }
 
     fn is_current(&mut self, definition: &Definition) -> bool {
@@ -114,7 +155,7 @@ impl<S: Spawner, F: Folder> DictAt<S> for PlainDict<S, F> {
             alloc,
             definition,
             spawner,
-            &mut self.slot,
+            &mut self.view.slot,
             now,
             &mut self.board,
         )

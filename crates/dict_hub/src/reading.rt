@@ -22,6 +22,7 @@ fn items_of(alloc: Global, text: &[u8]) -> Result<ListOf<Item>, ConfigEnd>
     ensures gives { TextGives text.now result }
     ensures sound { IfOk result (All IsSoundItem) }
     ensures fault { IfErr result IsFileFault }
+    ensures read { IsErrOf result ConfigEnd.Unread → ⊥ }
 {
     match parse_definitions(alloc, text) {
         Ok(items) => Ok(items),

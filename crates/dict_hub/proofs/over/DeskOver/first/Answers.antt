@@ -10,7 +10,6 @@ loop-d-init g c = record {
   loads = refl;
   grows = record { views = λ d. prefix-self _; items = refl };
   many = refl;
-  named = refl;
 }
 
 pub loop-d-preserved : goal.loop-d-preserved
@@ -30,6 +29,9 @@ loop-d-preserved g c =
         items = inv.grows.items;
       };
       many = length-set dicts c.loop-d.d c.load.new.self ∙ inv.many;
-      named = names-set (λ x. g.C.DictAt.name (g.C.DictAt.state x)) dicts c.loop-d.d c.index_mut.result.now c.load.new.self
-          c.index_mut.ensures.value c.load.ensures.named ∙ inv.named;
     }
+
+pub invariant_of-self-in-loop-d-clause-named : goal.invariant_of-self-in-loop-d-clause-named
+invariant_of-self-in-loop-d-clause-named g c =
+    names-set (λ x. g.C.DictAt.name (g.C.DictAt.state x)) c.loop-d.self.dictionaries.items c.loop-d.d c.index_mut.result.now c.load.new.self
+    c.index_mut.ensures.value c.load.ensures.named ∙ c.loop-d.self.named

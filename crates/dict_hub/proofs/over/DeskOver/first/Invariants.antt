@@ -18,6 +18,4 @@ invariant-loop-d g l =
       loads : LoadUpTo moves l.now l.d old new;
       grows : Grows (over_facts g.C.DictAt.view moves) old new;
       many : length l.self.dictionaries.items ≡ length l.initial.self.dictionaries.items;
-      named : map (λ c. g.C.DictAt.name (g.C.DictAt.state c)) l.self.dictionaries.items
-      ≡ map (λ c. g.C.DictAt.name (g.C.DictAt.state c)) l.initial.self.dictionaries.items;
     }

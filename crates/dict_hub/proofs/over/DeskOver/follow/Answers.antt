@@ -18,7 +18,6 @@ loop-item-init g c = record {
   follows = (refl, c.none-counts.ensures);
   grows = record { views = λ d. prefix-self _; items = refl };
   many = refl;
-  named = refl;
   asked = c.args.self.now.named ∙ sym (stand-named c.args.self.now.items c.args.items c.requires.stand);
   changed = subst (λ (counts : Counts). counts.changed ≤ 0) (sym c.none-counts.ensures) (omega arith);
   fewer = subst (λ (counts : Counts). counts.published ≤ counts.changed) (sym c.none-counts.ensures) (omega arith);
@@ -51,7 +50,7 @@ loop-item-preserved g c =
     let low = slice_get_within c.args.items c.loop-item.place item here in
     let lt : c.loop-item.place < length c.loop-item.self.dictionaries.items = omega (arith, low, inv.all, inv.many, c.args.self.now.many) in
     let stays = names-set (λ x. g.C.DictAt.name (g.C.DictAt.state x)) dicts c.loop-item.place c.index_mut.result.now c.follow_one.new.dictionary
-        c.index_mut.ensures.value c.follow_one.ensures.named in record {
+    c.index_mut.ensures.value c.follow_one.ensures.named in record {
       left = rw add-one (rest-left c.args.items c.loop-item.place item rest left);
       within = omega (arith, low);
       all = inv.all;
@@ -73,8 +72,12 @@ loop-item-preserved g c =
         items = inv.grows.items;
       };
       many = length-set dicts c.loop-item.place c.follow_one.new.dictionary ∙ inv.many;
-      named = stays ∙ inv.named;
       asked = stays ∙ inv.asked;
       changed = omega (arith, c.follow_one.ensures.one, inv.changed);
       fewer = c.follow_one.ensures.fewer;
     }
+
+pub invariant_of-self-in-Some-clause-named : goal.invariant_of-self-in-Some-clause-named
+invariant_of-self-in-Some-clause-named g c =
+    names-set (λ x. g.C.DictAt.name (g.C.DictAt.state x)) c.loop-item.self.dictionaries.items c.loop-item.place c.index_mut.result.now
+    c.follow_one.new.dictionary c.index_mut.ensures.value c.follow_one.ensures.named ∙ c.loop-item.self.named

@@ -25,8 +25,6 @@ invariant-loop-item g l =
       follows : FollowUpTo moves l.now l.initial.items l.place old l.counts new;
       grows : Grows (over_facts g.C.DictAt.view moves) old new;
       many : length l.self.dictionaries.items ≡ length l.initial.self.dictionaries.items;
-      named : map (λ c. g.C.DictAt.name (g.C.DictAt.state c)) l.self.dictionaries.items
-      ≡ map (λ c. g.C.DictAt.name (g.C.DictAt.state c)) l.initial.self.dictionaries.items;
       asked : map (λ c. g.C.DictAt.name (g.C.DictAt.state c)) l.self.dictionaries.items ≡ map item_name l.initial.items;
       changed : l.counts.changed ≤ l.place;
       fewer : l.counts.published ≤ l.counts.changed;
