@@ -242,11 +242,12 @@ leaves scripts starts started told history faults d now spawner later_spawner ol
 
 -- ---- a load where one is due
 
-some-is : {T : Type 0} (x : T) → IsSome (Some x)
-some-is x = search rules
+some-is : (end : LoadEnd) → IsSome (Some end)
+some-is end = search rules
 
-none-not : {T : Type 0} → IsSome {T} None → ⊥
-none-not h = search rules
+none-not : (result : Option LoadEnd) → result ≡ None → IsSome result → ⊥
+none-not None is h = search rules
+none-not (Some end) is h = cc is
 
 -- the same of a load where one was due, and nothing else
 pub record LeavesDue (folder : List ℕ) (from : PlainState) (before : Children) (now : ℕ) (result : Option LoadEnd) (to : PlainState)
@@ -275,7 +276,7 @@ leaves-due scripts starts started told history faults now spawner later_spawner 
     ap (λ (n : LoaderState). plain_state n after later) e.0 ∙ ap (λ (a : List Contents). plain_state old a later) e.2
     ∙ ap (λ (b : BoardTold ℕ). plain_state old list b) e.3 in
     record {
-      acted = ((λ d. none-not (due.1 d)), same, ap (children_of scripts starts) e.1);
+      acted = ((λ d. none-not None refl (due.1 d)), same, ap (children_of scripts starts) e.1);
       plain = subst (λ (x : PlainState). IsPlain folder x.loader x.list x.board) (sym same) p;
       grows = subst (IsPrefix list) (sym e.2) (prefix-self list);
     }

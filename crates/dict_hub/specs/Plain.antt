@@ -29,7 +29,7 @@ pub record PlainState : Type 0 where
 abbrev pub plain_state : LoaderState → List Contents → BoardTold ℕ → PlainState
 plain_state loader list board = record { loader = loader; list = list; board = board }
 
--- no load has begun: the definition, the folder of its programs, the seed of the run, and its number in the file, from 0
+-- no load has begun: the definition, the folder of its programs, the seed of the run, and its number, from 0
 abbrev pub new_plain : Definition → List ℕ → ℕ → ℕ → PlainState
 new_plain d folder seed number = plain_state (new_loader d folder seed number) [] empty_board
 
@@ -57,8 +57,8 @@ PostsAll old new postings = new ≡ fold posted old postings
 -- one load with a definition, of the loader, the list, the children and the board as one whole
 abbrev pub PlainLoads : Definition → PlainState → Children → ℕ → LoadEnd → PlainState → Children → Type 0
 PlainLoads d from before now end to after =
-    IsLoad (RunsTold d before after) (after ≡ before) (λ (told : ℕ). told ≡ length to.list) (PostsAll from.board to.board)
-    d now end from.loader to.loader from.list to.list
+    IsLoad (RunsTold d before after) (after ≡ before) (λ (told : ℕ). told ≡ length to.list)
+    (PostsAll from.board to.board) d now end from.loader to.loader from.list to.list
 
 -- an entering gives the newest version; it lacks only where the handles of a version can't be counted any more
 abbrev pub PlainEntered : PlainState → Result (Entered Contents) EnterFault → PlainState → Type 0

@@ -78,7 +78,8 @@ impl<S: Spawner, K: Clock, C: DictAt<S>, F: FileAt> DeskOver<S, K, C, F> {
         requires sound { All IsSoundItem items }
         requires bound { now ≤ LAST_MOMENT }
         ensures follows { FollowUpTo (moves_of C.entered C.taught C.loaded C.due C.loaded_as C.judged F.reads) now items
-            (length self.old.items) (⟦<DeskOver<S, K, C, F> as Desk>⟧.state self.old) result (⟦<DeskOver<S, K, C, F> as Desk>⟧.state self.new) }
+            (length self.old.items) (⟦<DeskOver<S, K, C, F> as Desk>⟧.state self.old) result
+            (⟦<DeskOver<S, K, C, F> as Desk>⟧.state self.new) }
         ensures grows { Grows ⟦<DeskOver<S, K, C, F> as Desk>⟧.facts (⟦<DeskOver<S, K, C, F> as Desk>⟧.state self.old)
             (⟦<DeskOver<S, K, C, F> as Desk>⟧.state self.new) }
     {

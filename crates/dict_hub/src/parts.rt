@@ -1,5 +1,6 @@
 // The parts of a desk.
-ghost use Rattle.std.specs.Prelude.{◌≡◌, ℕ, ◌≤◌, All, Bool, List, length, Option, Result, IfErr, IfOk, IsErrOf, Some, false};
+ghost use Rattle.std.specs.Prelude.{◌≡◌, ℕ, ◌≤◌, All, Bool, List, length, Option, Result, IfErr, IfOk, IsErrOf};
+ghost use Rattle.std.specs.Prelude.{Some, false};
 ghost use mathlib.Core.List.{IsPrefix};
 ghost use Rattle.dict_io.specs.Outside.{HasCause};
 ghost use Rattle.dict_io.specs.declared.outside.TheConstants.{LAST_MOMENT};
