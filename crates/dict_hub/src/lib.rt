@@ -14,6 +14,8 @@ mod over;
 mod parts;
 mod plain;
 mod reading;
+#[cfg(test)]
+mod tests;
 
 pub use following::Counts;
 pub use items::{Items, are_loaded};
