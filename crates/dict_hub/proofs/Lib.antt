@@ -1,3 +1,5 @@
 pub mod Followed
+pub mod Opened
 pub mod Places
+pub mod Plains
 pub mod Unlike

@@ -1,5 +1,5 @@
 -- One part of a list moves, and the others stay.
-use Rattle.std.proofs.Common.{◌≡◌, ℕ, zero, suc, ◌<◌, ◌≤◌, List, [], ◌∷◌, map, length, get_or, set, refl, sym, ap, subst, arith, Option, Some, Bool, drop, inl, inr, false}
+use Rattle.std.proofs.Common.{◌≡◌, ℕ, zero, suc, ◌<◌, ◌≤◌, List, [], ◌∷◌, map, length, get_or, set, refl, sym, ap, subst, ◌∙◌, arith, Option, Some, Bool, drop, inl, inr, false}
 use Rattle.std.specs.Prelude.{slice_get}
 use Rattle.std.specs.List.{All}
 use Rattle.std.proofs.lemmas.List.Elements.{All-get_or}
@@ -15,7 +15,7 @@ use Rattle.dict_session.specs.Items.{IsFunctionItem, IsKeyedItem, IsLoadedItem}
 use Rattle.dict_version.specs.Contents.{Contents}
 use Rattle.dict_schema.specs.Parts.{is_keyed_layout}
 use Rattle.dict_hub.specs.Changes.{AllStand, Stands, StandsAt}
-use Rattle.dict_hub.specs.Over.{At, Children, IsLoaded, OverState, count_at, over_state, view_at}
+use Rattle.dict_hub.specs.Over.{At, Children, IsLoaded, OverState, count_at, item_name, over_state, view_at}
 use Rattle.version_slot.proofs.Views.{prefix-self}
 
 slice_get_map : {A B : Type 0} (f : A → B) (cs : List A) (d : ℕ) (x : A) → d < length cs → x ≡ get_or cs d x → slice_get (map f cs) d ≡ Some (f x)
@@ -121,3 +121,53 @@ first-of P xs x rest is all = subst (All P) is all 0 x (omega arith)
 
 pub rest-of : {A : Type 0} (P : A → Type 0) (xs : List A) (x : A) (rest : List A) → xs ≡ x ∷ rest → All P xs → All P rest
 rest-of P xs x rest is all = λ k d l. subst (All P) is all (suc k) d (omega (arith, l))
+
+-- ---- names
+
+-- a name that stays
+pub names-set : {A B : Type 0} (f : A → B) (cs : List A) (d : ℕ) (x y : A) → x ≡ get_or cs d x → f y ≡ f x → map f (set cs d y) ≡ map f cs
+names-set f [] d x y is same = refl
+names-set f (c ∷ cs) zero x y is same = ap (λ z. z ∷ map f cs) (same ∙ ap f is)
+names-set f (c ∷ cs) (suc d) x y is same = ap (λ zs. f c ∷ zs) (names-set f cs d x y is same)
+
+-- as many dictionaries as items
+pub as-many : {A B E : Type 0} (f : A → E) (g : B → E) (cs : List A) (xs : List B) → map f cs ≡ map g xs → length cs ≡ length xs
+as-many f g [] [] same = refl
+as-many f g [] (x ∷ xs) same = cc same
+as-many f g (c ∷ cs) [] same = cc same
+as-many f g (c ∷ cs) (x ∷ xs) same = ap suc (as-many f g cs xs (cc same))
+
+mapped-at : {A B : Type 0} (g : A → B) (xs : List A) (d : ℕ) (x : A) → slice_get xs d ≡ Some x → slice_get (map g xs) d ≡ Some (g x)
+mapped-at g [] d x at = cc at
+mapped-at g (y ∷ ys) zero x at = ap (λ z. Some (g z)) (cc at)
+mapped-at g (y ∷ ys) (suc d) x at = mapped-at g ys d x at
+
+-- the name of a dictionary is that of the item at its place
+pub name-at : {A B E : Type 0} (f : A → E) (g : B → E) (cs : List A) (xs : List B) (d : ℕ) (c : A) (x : B) → map f cs ≡ map g xs
+    → d < length cs → c ≡ get_or cs d c → slice_get xs d ≡ Some x → g x ≡ f c
+name-at f g cs xs d c x same lt is at =
+    let here = slice_get_map f cs d c lt is in
+    let there = mapped-at g xs d x at in
+    let both : Some (f c) ≡ Some (g x) = sym here ∙ ap (λ names. slice_get names d) same ∙ there in
+    cc both
+
+-- what stands in the place of another has its name
+stands-named : (item other : Item) → Stands item other → item_name other ≡ item_name item
+stands-named (Dictionary d) (Dictionary other) (inl change) = sym change.name
+stands-named (Dictionary d) (Dictionary other) (inr same) = ap (λ x. x.name) (sym same)
+stands-named (Dictionary d) (Function g) h = cc h
+stands-named (Function f) (Dictionary d) h = cc h
+stands-named (Function f) (Function g) h = ap item_name (sym h)
+
+each-named : (items others : List Item) → length others ≡ length items
+    → ((k : ℕ) → k < length items → StandsAt (slice_get items k) (slice_get others k)) → map item_name others ≡ map item_name items
+each-named [] [] many each = refl
+each-named [] (y ∷ ys) many each = cc many
+each-named (x ∷ xs) [] many each = cc many
+each-named (x ∷ xs) (y ∷ ys) many each =
+    let first = stands-named x y (each 0 (omega arith)) in
+    let rest = each-named xs ys (omega (arith, many)) (λ k l. each (suc k) (omega (arith, l))) in
+    cc (first, rest)
+
+pub stand-named : (items others : List Item) → AllStand items others → map item_name others ≡ map item_name items
+stand-named items others stand = each-named items others stand.many stand.each

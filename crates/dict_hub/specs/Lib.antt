@@ -1,2 +1,5 @@
 pub mod Changes
 pub mod Over
+pub mod Plain
+pub mod Readings
+pub mod Texts

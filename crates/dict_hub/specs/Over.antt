@@ -62,6 +62,11 @@ pub record AreDesks (items : List Item) : Type 0 where
   pub loaded : AllLoaded items
   pub few : length items < MAX
 
+-- the name of an item
+abbrev pub item_name : Item → List ℕ
+item_name (Dictionary d) = d.name
+item_name (Function f) = f.name
+
 -- the view of the dictionary at a place, and none behind the last
 abbrev pub view_at : {D : Type 0} → (D → List Contents) → List D → ℕ → List Contents
 view_at view [] place = []
@@ -119,6 +124,12 @@ abbrev pub DueUpTo : {D F : Type 0} → Moves D F → ℕ → ℕ → OverState 
 DueUpTo moves now zero old new = new ≡ old
 DueUpTo {D} {F} moves now (suc count) old new = (mid : OverState D F) × DueUpTo moves now count old mid
     × At count mid new (λ from before to after. (end : Option LoadEnd) × moves.due from before now end to after)
+
+-- the first dictionaries were loaded once, one after the other
+abbrev pub LoadUpTo : {D F : Type 0} → Moves D F → ℕ → ℕ → OverState D F → OverState D F → Type 0
+LoadUpTo moves now zero old new = new ≡ old
+LoadUpTo {D} {F} moves now (suc count) old new = (mid : OverState D F) × LoadUpTo moves now count old mid
+    × At count mid new (λ from before to after. (end : LoadEnd) × moves.loaded from before now end to after)
 
 -- a moment was taken, and all else is as it was
 pub record Ticked {D F : Type 0} (old : OverState D F) (now : ℕ) (new : OverState D F) : Type 0 where

@@ -1,7 +1,7 @@
 // What a dictionary makes of the item that stands in its place in another definitions file.
 ghost use Rattle.std.specs.Prelude.{◌≡◌, ◌≤◌, ◌<◌, ◌+◌};
 ghost use mathlib.Core.List.{IsPrefix};
-ghost use Rattle.dict_hub.specs.Over.{Follows, IsLoaded, children_of, no_counts, with_end};
+ghost use Rattle.dict_hub.specs.Over.{Follows, IsLoaded, children_of, item_name, no_counts, with_end};
 ghost use Rattle.dict_io.specs.declared.outside.TheConstants.{LAST_MOMENT};
 ghost use Rattle.dict_schema.specs.Sound.{IsSoundItem};
 
@@ -58,6 +58,7 @@ pub(crate) fn follow_one<S: Spawner, C: DictAt<S>>(
 )
     requires sound { IsSoundItem item }
     requires loaded { IsLoaded item }
+    requires named { item_name item ≡ C.name (C.state dictionary.old) }
     requires bound { now ≤ LAST_MOMENT }
     requires room { counts.old.changed < u32.MAX }
     requires fewer { counts.old.published ≤ counts.old.changed }
@@ -65,6 +66,7 @@ pub(crate) fn follow_one<S: Spawner, C: DictAt<S>>(
         (C.state dictionary.old) (children_of S.scripts S.starts spawner.old)
         (C.state dictionary.new) (children_of S.scripts S.starts spawner.new) counts.new }
     ensures grows { IsPrefix (C.view (C.state dictionary.old)) (C.view (C.state dictionary.new)) }
+    ensures named { C.name (C.state dictionary.new) ≡ C.name (C.state dictionary.old) }
     ensures fewer { counts.new.published ≤ counts.new.changed }
     ensures one { counts.new.changed ≤ counts.old.changed + 1 }
 {

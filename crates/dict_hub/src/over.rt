@@ -1,7 +1,8 @@
 // A desk over its parts.
 ghost use Rattle.std.specs.Prelude.{◌≡◌, ◌≤◌, All, length, map};
 ghost use Rattle.dict_hub.specs.Changes.{AllStand};
-ghost use Rattle.dict_hub.specs.Over.{FollowUpTo, OverState, children_of, count_at, moves_of, over_facts, over_state};
+ghost use Rattle.dict_hub.specs.Over.{FollowUpTo, LoadUpTo, OverState, children_of, count_at, item_name, moves_of};
+ghost use Rattle.dict_hub.specs.Over.{over_facts, over_state};
 ghost use Rattle.dict_io.specs.declared.outside.TheConstants.{LAST_MOMENT};
 ghost use Rattle.dict_session.specs.Facts.{Grows};
 ghost use Rattle.dict_schema.specs.Sound.{IsSoundItem};
@@ -30,10 +31,11 @@ pub struct DeskOver<S: Spawner, K: Clock, C: DictAt<S>, F: FileAt> {
     dictionaries: Vec<C>,
     reloads: bool,
     ghost many: { length dictionaries.items ≡ length items },
+    ghost named: { map (λ c. C.name (C.state c)) dictionaries.items ≡ map item_name items },
 }
 
 impl<S: Spawner, K: Clock, C: DictAt<S>, F: FileAt> DeskOver<S, K, C, F> {
-    /// The dictionaries stand in the order of their items.
+    /// The dictionaries stand in the order of their items, and have their names.
     pub fn new(
         spawner: S,
         clock: K,
@@ -42,7 +44,7 @@ impl<S: Spawner, K: Clock, C: DictAt<S>, F: FileAt> DeskOver<S, K, C, F> {
         dictionaries: Vec<C>,
         reloads: bool,
     ) -> DeskOver<S, K, C, F>
-        requires { length dictionaries.items ≡ length items }
+        requires { map (λ c. C.name (C.state c)) dictionaries.items ≡ map item_name items }
         ensures { ⟦<DeskOver<S, K, C, F> as Desk>⟧.state result ≡ over_state items (F.state file) (K.moments clock)
             (children_of S.scripts S.starts spawner) (map C.state dictionaries.items) reloads }
     {
@@ -56,13 +58,28 @@ impl<S: Spawner, K: Clock, C: DictAt<S>, F: FileAt> DeskOver<S, K, C, F> {
         }
     }
 
+    /// Loads each dictionary once, in the order of the items.
+    pub fn first(&mut self, alloc: Global, now: u64)
+        requires { now ≤ LAST_MOMENT }
+        ensures loads { LoadUpTo (moves_of C.entered C.taught C.loaded C.due C.loaded_as C.judged F.reads) now
+            (length self.old.items) (⟦<DeskOver<S, K, C, F> as Desk>⟧.state self.old)
+            (⟦<DeskOver<S, K, C, F> as Desk>⟧.state self.new) }
+        ensures grows { Grows ⟦<DeskOver<S, K, C, F> as Desk>⟧.facts (⟦<DeskOver<S, K, C, F> as Desk>⟧.state self.old)
+            (⟦<DeskOver<S, K, C, F> as Desk>⟧.state self.new) }
+    {
+        for d in 0..self.dictionaries.len() {
+            self.dictionaries[d].load(alloc, &mut self.spawner, now);
+        }
+    }
+
     /// Hands each dictionary the item that stands in its place now.
     fn follow(&mut self, alloc: Global, items: ListOf<Item>, now: u64) -> Counts
         requires stand { AllStand self.old.items items }
         requires sound { All IsSoundItem items }
         requires bound { now ≤ LAST_MOMENT }
         ensures follows { FollowUpTo (moves_of C.entered C.taught C.loaded C.due C.loaded_as C.judged F.reads) now items
-            (length self.old.items) (⟦<DeskOver<S, K, C, F> as Desk>⟧.state self.old) result (⟦<DeskOver<S, K, C, F> as Desk>⟧.state self.new) }
+            (length self.old.items) (⟦<DeskOver<S, K, C, F> as Desk>⟧.state self.old) result
+            (⟦<DeskOver<S, K, C, F> as Desk>⟧.state self.new) }
         ensures grows { Grows ⟦<DeskOver<S, K, C, F> as Desk>⟧.facts (⟦<DeskOver<S, K, C, F> as Desk>⟧.state self.old)
             (⟦<DeskOver<S, K, C, F> as Desk>⟧.state self.new) }
     {

@@ -1,5 +1,6 @@
 // The parts of a desk.
-ghost use Rattle.std.specs.Prelude.{◌≡◌, ℕ, ◌≤◌, All, Bool, List, length, Option, Result, IfErr, IfOk, IsErrOf, Some, false};
+ghost use Rattle.std.specs.Prelude.{◌≡◌, ℕ, ◌≤◌, All, Bool, List, length, Option, Result, IfErr, IfOk, IsErrOf};
+ghost use Rattle.std.specs.Prelude.{Some, false};
 ghost use mathlib.Core.List.{IsPrefix};
 ghost use Rattle.dict_io.specs.Outside.{HasCause};
 ghost use Rattle.dict_io.specs.declared.outside.TheConstants.{LAST_MOMENT};
@@ -35,6 +36,9 @@ pub trait DictAt<S: Spawner> {
     /// What its viewer saw and was told of.
     ghost view: { State → List Contents };
 
+    /// Its name, which stays.
+    ghost name: { State → List ℕ };
+
     /// What the calls do, as far as that is told.
     ghost entered: { State → Result (Entered Contents) EnterFault → State → Type 0 };
 
@@ -56,6 +60,7 @@ pub trait DictAt<S: Spawner> {
     fn enter(&mut self) -> Result<Seen<Version<Uncounted>>, EnterFault>
         ensures act { entered (state self.old) result (state self.new) }
         ensures grows { IsPrefix (view (state self.old)) (view (state self.new)) }
+        ensures named { name (state self.new) ≡ name (state self.old) }
         ensures seen { IfOk result (λ seen. IsNewestOf (view (state self.new)) seen) }
         ensures shut { HasCause (refusals self.old) (refusals self.new) (IsErrOf result EnterFault.Shut) };
 
@@ -63,6 +68,7 @@ pub trait DictAt<S: Spawner> {
     fn teach(&mut self) -> StatusRow
         ensures act { taught (state self.old) result (state self.new) }
         ensures grows { IsPrefix (view (state self.old)) (view (state self.new)) }
+        ensures named { name (state self.new) ≡ name (state self.old) }
         ensures learnt { result.number ≤ length (view (state self.new)) };
 
     /// One load; of a published version its viewer has learnt.
@@ -71,6 +77,7 @@ pub trait DictAt<S: Spawner> {
         ensures act { loaded (state self.old) (children_of S.scripts S.starts spawner.old) now result
             (state self.new) (children_of S.scripts S.starts spawner.new) }
         ensures grows { IsPrefix (view (state self.old)) (view (state self.new)) }
+        ensures named { name (state self.new) ≡ name (state self.old) }
         ensures learnt { (n : ℕ) → result ≡ LoadEnd.Published n → n ≤ length (view (state self.new)) };
 
     /// A load where one is due at this moment; of a published version its viewer has learnt.
@@ -79,6 +86,7 @@ pub trait DictAt<S: Spawner> {
         ensures act { due (state self.old) (children_of S.scripts S.starts spawner.old) now result
             (state self.new) (children_of S.scripts S.starts spawner.new) }
         ensures grows { IsPrefix (view (state self.old)) (view (state self.new)) }
+        ensures named { name (state self.new) ≡ name (state self.old) }
         ensures learnt { (n : ℕ) → result ≡ Some (LoadEnd.Published n) → n ≤ length (view (state self.new)) };
 
     /// Whether a definition is the current one.
@@ -86,7 +94,7 @@ pub trait DictAt<S: Spawner> {
         ensures judged { judged (state self.old) definition.now result }
         ensures same { state self.new ≡ state self.old };
 
-    /// One load with another definition; of a published version its viewer has learnt.
+    /// One load with another definition of its name; of a published version its viewer has learnt.
     fn load_as(
         &mut self,
         alloc: Global,
@@ -96,10 +104,12 @@ pub trait DictAt<S: Spawner> {
     ) -> LoadEnd
         requires sound { IsSound definition }
         requires kept { is_keyed_layout definition.layout ≡ false }
+        requires name { definition.name ≡ name (state self.old) }
         requires bound { now ≤ LAST_MOMENT }
         ensures act { loaded_as (state self.old) definition (children_of S.scripts S.starts spawner.old) now result
             (state self.new) (children_of S.scripts S.starts spawner.new) }
         ensures grows { IsPrefix (view (state self.old)) (view (state self.new)) }
+        ensures named { name (state self.new) ≡ name (state self.old) }
         ensures learnt { (n : ℕ) → result ≡ LoadEnd.Published n → n ≤ length (view (state self.new)) };
 }
 

@@ -1,8 +1,8 @@
-use Rattle.std.proofs.Common.{◌≡◌, ◌≤◌, length, drop}
+use Rattle.std.proofs.Common.{◌≡◌, ◌≤◌, length, drop, map}
 use Rattle.std.specs.List.{All}
 use Rattle.dict_schema.specs.Sound.{IsSoundItem}
 use Rattle.dict_session.specs.Facts.{Grows}
-use Rattle.dict_hub.specs.Over.{FollowUpTo, IsLoaded, children_of, moves_of, over_facts}
+use Rattle.dict_hub.specs.Over.{FollowUpTo, IsLoaded, children_of, item_name, moves_of, over_facts}
 use Rattle.dict_hub.proofs.Places.{state_of}
 use Rattle.dict_hub.proofs.over.DeskOver.follow.Given as goal
 
@@ -25,6 +25,7 @@ invariant-loop-item g l =
       follows : FollowUpTo moves l.now l.initial.items l.place old l.counts new;
       grows : Grows (over_facts g.C.DictAt.view moves) old new;
       many : length l.self.dictionaries.items ≡ length l.initial.self.dictionaries.items;
+      asked : map (λ c. g.C.DictAt.name (g.C.DictAt.state c)) l.self.dictionaries.items ≡ map item_name l.initial.items;
       changed : l.counts.changed ≤ l.place;
       fewer : l.counts.published ≤ l.counts.changed;
     }

@@ -2,7 +2,7 @@ use Rattle.std.proofs.Common.{◌<◌, length, refl, ◌∙◌, arith, add-one, 
 use Rattle.std.proofs.Math.ListN.{length-set}
 use Rattle.loader.specs.declared.answers.LoadEnd.{LoadEnd}
 use Rattle.version_slot.proofs.Views.{prefix-chain, prefix-self}
-use Rattle.dict_hub.proofs.Places.{moved_at, views_grow}
+use Rattle.dict_hub.proofs.Places.{moved_at, names-set, views_grow}
 use Rattle.dict_hub.proofs.over.DeskOverDesk.before.Goals as goal
 
 pub loop-d-init : goal.loop-d-init
@@ -30,3 +30,8 @@ loop-d-preserved g c =
       };
       many = length-set dicts c.loop-d.d c.load_due.new.self ∙ inv.many;
     }
+
+pub invariant_of-self-in-loop-d-clause-named : goal.invariant_of-self-in-loop-d-clause-named
+invariant_of-self-in-loop-d-clause-named g c =
+    names-set (λ x. g.C.DictAt.name (g.C.DictAt.state x)) c.loop-d.self.dictionaries.items c.loop-d.d c.index_mut.result.now c.load_due.new.self
+    c.index_mut.ensures.value c.load_due.ensures.named ∙ c.loop-d.self.named

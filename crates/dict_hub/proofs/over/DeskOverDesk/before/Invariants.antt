@@ -1,4 +1,4 @@
-use Rattle.std.proofs.Common.{◌≡◌, length}
+use Rattle.std.proofs.Common.{◌≡◌, length, map}
 use Rattle.dict_session.specs.Facts.{Grows}
 use Rattle.dict_hub.specs.Over.{DueUpTo, children_of, moves_of, over_facts}
 use Rattle.dict_hub.proofs.Places.{state_of}

@@ -1,7 +1,7 @@
-use Rattle.std.proofs.Common.{◌≡◌, refl, sym, subst}
+use Rattle.std.proofs.Common.{◌≡◌, refl, sym, subst, ◌∙◌}
 use Rattle.std.specs.Prelude.{IfOk}
 use Rattle.version_slot.specs.Views.{IsNewestOf}
-use Rattle.dict_hub.proofs.Places.{counts_have_cause, loaded-within, moved_at, view_set, views_grow}
+use Rattle.dict_hub.proofs.Places.{counts_have_cause, loaded-within, moved_at, names-set, view_set, views_grow}
 use Rattle.dict_hub.proofs.over.DeskOverDesk.enter.Goals as goal
 
 pub returns-clause-act : goal.returns-clause-act
@@ -24,3 +24,8 @@ returns-clause-seen g c =
 pub returns-clause-shut : goal.returns-clause-shut
 returns-clause-shut g c =
     counts_have_cause _ g.C.DictAt.refusals c.args.self.now.dictionaries.items c.args.d c.index_mut.result.now c.enter.new.self (loaded-within c.args.self.now.items c.args.self.now.dictionaries.items c.args.d c.args.self.now.many c.requires) c.index_mut.ensures.value c.enter.ensures.shut
+
+pub invariant_of-self-clause-named : goal.invariant_of-self-clause-named
+invariant_of-self-clause-named g c =
+    names-set (λ x. g.C.DictAt.name (g.C.DictAt.state x)) c.args.self.now.dictionaries.items c.args.d c.index_mut.result.now c.enter.new.self
+    c.index_mut.ensures.value c.enter.ensures.named ∙ c.args.self.now.named

@@ -1,5 +1,5 @@
-use Rattle.std.proofs.Common.{◌≤◌, length, refl, sym, subst}
-use Rattle.dict_hub.proofs.Places.{loaded-within, moved_at, view_set, views_grow}
+use Rattle.std.proofs.Common.{◌≤◌, length, refl, sym, subst, ◌∙◌}
+use Rattle.dict_hub.proofs.Places.{loaded-within, moved_at, names-set, view_set, views_grow}
 use Rattle.dict_hub.proofs.over.DeskOverDesk.reload.Goals as goal
 
 pub returns-clause-act : goal.returns-clause-act
@@ -18,3 +18,8 @@ returns-clause-learnt g c = λ n h.
     subst (λ v. n ≤ length v)
     (sym (view_set g.C.DictAt.view g.C.DictAt.state c.args.self.now.dictionaries.items c.args.d c.load.new.self (loaded-within c.args.self.now.items c.args.self.now.dictionaries.items c.args.d c.args.self.now.many c.requires.loaded)))
     (c.load.ensures.learnt n h)
+
+pub invariant_of-self-clause-named : goal.invariant_of-self-clause-named
+invariant_of-self-clause-named g c =
+    names-set (λ x. g.C.DictAt.name (g.C.DictAt.state x)) c.args.self.now.dictionaries.items c.args.d c.index_mut.result.now c.load.new.self
+    c.index_mut.ensures.value c.load.ensures.named ∙ c.args.self.now.named
