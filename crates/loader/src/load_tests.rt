@@ -276,7 +276,7 @@ fn see_failure(
     let end = dictionary.call(alloc, Call::Load, &mut spawner, 101)?;
     assert_eq!(rt; end, Some(LoadEnd::Failed(failure.cause)), "at {place}");
     assert_eq!(rt;
-        dictionary.status(),
+        dictionary.status(rt),
         loaded(1, 1, LastCause::Of(failure.cause)),
         "at {place}"
     );
@@ -286,7 +286,7 @@ fn see_failure(
     let end = dictionary.call(alloc, Call::Load, &mut spawner, 102)?;
     assert_eq!(rt; end, Some(LoadEnd::Published(2)), "at {place}");
     assert_eq!(rt;
-        dictionary.status(),
+        dictionary.status(rt),
         loaded(2, 1, LastCause::None),
         "at {place}"
     );

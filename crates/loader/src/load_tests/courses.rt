@@ -589,7 +589,7 @@ fn see_step(
         is_started(spawner.starts(), before, step.words),
         "at {now}"
     );
-    assert_eq!(rt; dictionary.status(), row, "at {now}");
+    assert_eq!(rt; dictionary.status(rt), row, "at {now}");
     let (number, rows) = dictionary.entered(alloc)?;
     assert_eq!(rt; number, step.number, "at {now}");
     assert!(rt; rows.as_slice() == step.rows, "at {now}");
@@ -622,22 +622,29 @@ fn published_definitions_are_followed(rt: HostRuntime) -> Result<(), Fail> {
     see_courses(&rt, rt.alloc(), &CHANGES)
 }
 
+/// A load, a failed one with another definition, and a published one.
+static CHANGED: [Step; 3] = [
+    FIRST,
+    Step {
+        call: Call::As(OTHER),
+        ..REFUSED
+    },
+    Step {
+        call: Call::As(OTHER),
+        ..FIRST
+    },
+];
+
 /// A definition is the current one from its published load on.
 #[test]
 fn the_published_definition_is_current(rt: HostRuntime) -> Result<(), Fail> {
     let alloc = rt.alloc();
-    let mut spawner = spawner_of(alloc, &[FIRST, REFUSED, FIRST])?;
+    let mut spawner = spawner_of(alloc, &CHANGED)?;
     let mut dictionary = Dictionary::new(alloc, &LAGGING)?;
-    for (call, current) in [
-        (Call::Load, LAGGING),
-        (Call::As(OTHER), LAGGING),
-        (Call::As(OTHER), OTHER),
-    ] {
-        dictionary.call(alloc, call, &mut spawner, 100)?;
-        for sketch in [LAGGING, OTHER] {
-            let wanted = sketch.lag == current.lag;
-            assert_eq!(rt; dictionary.is_current(alloc, &sketch)?, wanted);
-        }
+    for (place, step) in CHANGED.iter().enumerate() {
+        dictionary.call(alloc, step.call, &mut spawner, step.now)?;
+        assert_eq!(rt; dictionary.is_current(alloc, &LAGGING)?, place < 2);
+        assert_eq!(rt; dictionary.is_current(alloc, &OTHER)?, place == 2);
     }
     Ok(())
 }

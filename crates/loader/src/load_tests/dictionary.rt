@@ -1,5 +1,5 @@
 // One dictionary of a test: its loader, its slot and its board.
-ghost use Rattle.std.specs.Prelude.{◌≡◌, ◌≤◌, IfOk, length, ⊤, false};
+ghost use Rattle.std.specs.Prelude.{◌≡◌, ◌<◌, ◌≤◌, length, ⊤, false};
 ghost use Rattle.dict_io.specs.declared.outside.TheConstants.{LAST_MOMENT};
 ghost use Rattle.dict_schema.specs.Parts.{is_keyed_layout};
 ghost use Rattle.dict_schema.specs.Sound.{IsSound};
@@ -13,8 +13,9 @@ use dict_value::{Bytes, NoMemory, Uncounted};
 use dict_version::Version;
 use std::alloc::Global;
 use std::marker::Model;
+use std::process::Abort;
 use std::test::Fail;
-use version_slot::{Fact, PlainSlot, PlainToken, Viewer};
+use version_slot::{Fact, PlainSlot, PlainToken, Publisher, Viewer};
 
 /// The fact of a slot whose entries need none.
 #[derive(Drop)]
@@ -131,8 +132,11 @@ impl Dictionary {
     }
 
     /// What the board tells.
-    pub(super) fn status(&mut self) -> StatusRow {
-        self.board.teach(&mut self.slot)
+    pub(super) fn status(&mut self, rt: &impl Abort) -> StatusRow {
+        let number = self.slot.number();
+        let row = self.board.teach(&mut self.slot);
+        assert!(rt; self.slot.number() <= number);
+        row
     }
 
     /// The newest version's number, and its rows as text; 0 and no text before the first version.
@@ -164,7 +168,10 @@ fn write_row(version: &Version<Uncounted>, place: u32, out: &mut Bytes) -> Resul
         if column > 0 {
             out.push(b'\t')?;
         }
-        version.write_cell(place, column as u32, out)?;
+        let Ok(number) = u32::try_from(column) else {
+            return Err(NoMemory);
+        };
+        version.write_cell(place, number, out)?;
     }
     out.push(b'\n')
 }

@@ -149,26 +149,27 @@ pub(super) fn definition_of(alloc: Global, sketch: &Sketch) -> Result<Definition
     }
 }
 
-fn numbers(alloc: Global, items: &[u64]) -> Result<ListOf<u64>, Fail> {
-    Ok(ListOf::from_vec(Vec::from_slice(alloc, items)?))
+fn calls_of(alloc: Global, call: Option<u64>) -> Result<ListOf<u64>, NoMemory> {
+    let mut calls = ListOf::new(alloc);
+    if let Some(call) = call {
+        calls.push(call)?;
+    }
+    Ok(calls)
 }
 
 /// A child that prints this in a piece of three bytes and the rest, and ends so.
 pub(super) fn script_of(alloc: Global, prints: Bytes, ends: Ends) -> Result<Script, Fail> {
-    let failing: [u64; 1] = match ends {
-        Ends::Cut(read) => [read],
-        _ => [9],
-    };
-    let late: [u64; 1] = match ends {
-        Ends::TimedOut(read) => [read],
-        _ => [9],
+    let (failing, late) = match ends {
+        Ends::Cut(read) => (Some(read), None),
+        Ends::TimedOut(read) => (None, Some(read)),
+        _ => (None, None),
     };
     Ok(Script {
         start_fails: matches!(ends, Ends::NotStarted),
         output: prints,
         sizes: ListOf::from_vec(Vec::from_slice(alloc, &[3])?),
-        failing_reads: numbers(alloc, &failing)?,
-        timed_out_reads: numbers(alloc, &late)?,
+        failing_reads: calls_of(alloc, failing)?,
+        timed_out_reads: calls_of(alloc, late)?,
         failing_writes: ListOf::new(alloc),
         wait_fails: matches!(ends, Ends::WaitFails),
         after_close: true,
