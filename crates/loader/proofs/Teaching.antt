@@ -47,6 +47,6 @@ pub loaded : (name : List ℕ) (is_told : ℕ → Type 0) (d : Definition) (now 
 loaded name is_told d now end postings old new list after b c entries keeps same at state are posts h =
     (at, rw posts (newest-posted is_told now end postings b list after entries keeps h.1 are), name-left d now end old new same state ∙ h.2)
 
-pub by-end : (r : Option LoadEnd) {G : Type 0} → (r ≡ None → G) → ((end : LoadEnd) → r ≡ Some end → G) → G
-by-end None none some = none refl
-by-end (Some end) none some = some end refl
+pub by-end : (r : Option LoadEnd) {G : Type 0} (P : LoadEnd → Type 0) → (r ≡ None → G) → IfSome r P → ((end : LoadEnd) → P end → G) → G
+by-end None P none h some = none refl
+by-end (Some end) P none h some = some end h

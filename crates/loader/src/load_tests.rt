@@ -4,6 +4,7 @@ mod dictionary;
 mod making;
 
 use crate::{LoadEnd, StatusRow};
+use child_io::MemorySpawner;
 use dict_schema::Layout;
 use dict_value::{BadRow, BadValue, Cause, ColType, Format, Why};
 use dictionary::{Call, Dictionary};
@@ -255,13 +256,29 @@ fn loaded(number: u64, fails: u64, cause: LastCause) -> StatusRow {
     }
 }
 
-/// A version, a child that gives none, and a version: the cause is told until then, and the rows stay.
-fn see_failure(
+/// A load that ends so, what the board tells then, and the rows that are there.
+fn see_load(
     rt: &impl Abort,
     alloc: Global,
-    place: usize,
-    failure: &Failure,
+    dictionary: &mut Dictionary,
+    spawner: &mut MemorySpawner,
+    end: LoadEnd,
+    row: StatusRow,
+    rows: &[u8],
 ) -> Result<(), Fail> {
+    assert_eq!(rt;
+        dictionary.call(alloc, Call::Load, spawner, 100)?,
+        Some(end)
+    );
+    assert_eq!(rt; dictionary.status(rt), row);
+    let (number, text) = dictionary.entered(alloc)?;
+    assert_eq!(rt; number, row.number);
+    assert!(rt; text.as_slice() == rows);
+    Ok(())
+}
+
+/// A version, a child that gives none, and a version: the cause is told until then, and the rows stay.
+fn see_failure(rt: &impl Abort, alloc: Global, failure: &Failure) -> Result<(), Fail> {
     let mut spawner = spawner_of(
         alloc,
         &[
@@ -270,35 +287,22 @@ fn see_failure(
             (b"", Ends::With(0)),
         ],
     )?;
-    let mut dictionary = Dictionary::new(alloc, &failure.sketch)?;
-    let end = dictionary.call(alloc, Call::Load, &mut spawner, 100)?;
-    assert_eq!(rt; end, Some(LoadEnd::Published(1)), "at {place}");
-    let end = dictionary.call(alloc, Call::Load, &mut spawner, 101)?;
-    assert_eq!(rt; end, Some(LoadEnd::Failed(failure.cause)), "at {place}");
-    assert_eq!(rt;
-        dictionary.status(rt),
-        loaded(1, 1, LastCause::Of(failure.cause)),
-        "at {place}"
-    );
-    let (number, rows) = dictionary.entered(alloc)?;
-    assert_eq!(rt; number, 1, "at {place}");
-    assert!(rt; rows.as_slice() == failure.rows, "at {place}");
-    let end = dictionary.call(alloc, Call::Load, &mut spawner, 102)?;
-    assert_eq!(rt; end, Some(LoadEnd::Published(2)), "at {place}");
-    assert_eq!(rt;
-        dictionary.status(rt),
-        loaded(2, 1, LastCause::None),
-        "at {place}"
-    );
-    let (number, rows) = dictionary.entered(alloc)?;
-    assert_eq!(rt; (number, rows.len()), (2, 0), "at {place}");
-    Ok(())
+    let mut d = Dictionary::new(alloc, &failure.sketch)?;
+    let first = loaded(1, 0, LastCause::None);
+    let end = LoadEnd::Published(1);
+    see_load(rt, alloc, &mut d, &mut spawner, end, first, failure.rows)?;
+    let failed = loaded(1, 1, LastCause::Of(failure.cause));
+    let end = LoadEnd::Failed(failure.cause);
+    see_load(rt, alloc, &mut d, &mut spawner, end, failed, failure.rows)?;
+    let last = loaded(2, 1, LastCause::None);
+    let end = LoadEnd::Published(2);
+    see_load(rt, alloc, &mut d, &mut spawner, end, last, b"")
 }
 
 #[test]
 fn each_failed_load_leaves_the_version_and_tells_its_cause(rt: HostRuntime) -> Result<(), Fail> {
-    for (place, failure) in FAILURES.iter().enumerate() {
-        see_failure(&rt, rt.alloc(), place, failure)?;
+    for failure in &FAILURES {
+        see_failure(&rt, rt.alloc(), failure)?;
     }
     Ok(())
 }
