@@ -10,6 +10,7 @@ pub mod Newest
 pub mod OneLoad
 pub mod RowsTaken
 pub mod SoundLoads
+pub mod Teaching
 pub mod WholeLoads
 pub mod WorldJudge
 pub mod WorldRuns

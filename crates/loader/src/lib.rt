@@ -18,6 +18,8 @@ mod board;
 mod board_tests;
 mod fault;
 pub mod laws;
+#[cfg(test)]
+mod load_tests;
 mod loader;
 mod loading;
 mod making;
