@@ -3,3 +3,4 @@ pub mod Opened
 pub mod Places
 pub mod Plains
 pub mod Unlike
+pub mod Allowed

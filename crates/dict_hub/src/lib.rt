@@ -19,7 +19,7 @@ mod tests;
 
 pub use following::Counts;
 pub use items::{Items, are_loaded};
-pub use local::{LocalDesk, local_desk};
+pub use local::{LocalDesk, local_desk, plain_dictionaries};
 pub use over::DeskOver;
 pub use parts::{DictAt, FileAt};
 pub use plain::PlainDict;

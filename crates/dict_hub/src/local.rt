@@ -1,5 +1,5 @@
 // The desk of one thread.
-ghost use Rattle.std.specs.Prelude.{◌≡◌, ◌<◌, ◌∷◌, [], All, IfOk, length, true};
+ghost use Rattle.std.specs.Prelude.{◌≡◌, ◌<◌, ◌∷◌, ℕ, [], All, IfOk, List, length, true};
 ghost use Rattle.dict_hub.specs.Over.{AllLoaded, IsLoaded, children_of, over_state};
 ghost use Rattle.dict_hub.specs.Plain.{new_plain, opened};
 ghost use Rattle.dict_hub.specs.Readings.{file_state};
@@ -18,13 +18,8 @@ use dict_value::{ListOf, NoMemory};
 use loader::Folder;
 use std::alloc::Global;
 
-/// A desk of one thread. What it loads is due before each request, and all that it meets outside is lent to it.
-pub type LocalDesk<'a, S, K, H, F> = DeskOver<
-    &'a mut S,
-    &'a mut K,
-    PlainDict<&'a mut S, F>,
-    DefinitionsFile<'a, &'a mut H>,
->;
+/// A desk of one thread, which loads what is due before each request. Its programs lie in the folder that F names.
+pub type LocalDesk<'a, S, K, H, F> = DeskOver<S, K, PlainDict<S, F>, DefinitionsFile<'a, H>>;
 
 /// The dictionary of an item, before its first load.
 fn open<S: Spawner, F: Folder>(
@@ -69,28 +64,36 @@ fn open_each<S: Spawner, F: Folder>(
     Ok(made.into_vec())
 }
 
-/// The desk of one thread over these items, before their first loads: each one's number is its place. The programs
-/// lie in the folder that F names.
-pub fn local_desk<'a, S: Spawner, K: Clock, H: Shelf, F: Folder>(
+/// The dictionaries of items, before their first loads: each one's number is its place. The programs lie in the folder
+/// that F names.
+pub fn plain_dictionaries<S: Spawner, F: Folder>(
     alloc: Global,
-    items: ListOf<Item>,
+    items: &Items,
     folder: &[u8],
     seed: u64,
-    spawner: &'a mut S,
-    clock: &'a mut K,
-    shelf: &'a mut H,
-    file: &'a str,
-) -> Result<LocalDesk<'a, S, K, H, F>, NoMemory>
-    requires sound { All IsSoundItem items }
-    requires loaded { AllLoaded items }
-    requires few { length items < u32.MAX }
-    requires folder { folder.now ≡ F.folder }
-    ensures { IfOk result (λ desk. ⟦<LocalDesk<'a, S, K, H, F> as Desk>⟧.state desk
-        ≡ over_state items (file_state (H.readings shelf.old) file.now) (K.moments clock.old)
-        (children_of S.scripts S.starts spawner.old) (opened folder.now seed 0 items) true) }
+) -> Result<Vec<PlainDict<S, F>>, NoMemory>
+    requires { folder.now ≡ F.folder }
+    ensures { IfOk result (λ made. made.items ≡ opened folder.now seed 0 items.now) }
 {
-    let dictionaries = open_each(alloc, items.as_slice(), folder, seed)?;
+    let items = items.list();
+    open_each(alloc, items.as_slice(), folder, seed)
+}
+
+/// The desk of one thread over these dictionaries of the items.
+pub fn local_desk<'a, S: Spawner, K: Clock, H: Shelf, F: Folder>(
+    items: Items,
+    dictionaries: Vec<PlainDict<S, F>>,
+    spawner: S,
+    clock: K,
+    shelf: H,
+    file: &'a str,
+) -> LocalDesk<'a, S, K, H, F>
+    requires { (folder : List ℕ) × (seed : ℕ) × (dictionaries.items ≡ opened folder seed 0 items) }
+    ensures { ⟦<LocalDesk<'a, S, K, H, F> as Desk>⟧.state result
+        ≡ over_state items (file_state (H.readings shelf) file.now) (K.moments clock)
+        (children_of S.scripts S.starts spawner) dictionaries.items true }
+{
+    let _items = items.list();
     let file = DefinitionsFile::new(shelf, file);
-    let items = Items::new(items);
-    Ok(DeskOver::new(spawner, clock, file, items, dictionaries, true))
+    DeskOver::new(spawner, clock, file, items, dictionaries, true)
 }

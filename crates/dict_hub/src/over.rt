@@ -1,8 +1,9 @@
 // A desk over its parts.
-ghost use Rattle.std.specs.Prelude.{◌≡◌, ◌≤◌, All, length, map};
+ghost use Rattle.std.specs.Prelude.{◌≡◌, ◌≤◌, ℕ, All, length, map};
 ghost use Rattle.dict_hub.specs.Changes.{AllStand};
 ghost use Rattle.dict_hub.specs.Over.{FollowUpTo, LoadUpTo, OverState, children_of, count_at, item_name, moves_of};
-ghost use Rattle.dict_hub.specs.Over.{over_facts, over_state};
+ghost use Rattle.dict_hub.specs.Over.{over_facts, over_state, view_at};
+ghost use Rattle.version_slot.specs.Views.{EachHasFact};
 ghost use Rattle.dict_io.specs.declared.outside.TheConstants.{LAST_MOMENT};
 ghost use Rattle.dict_session.specs.Facts.{Grows};
 ghost use Rattle.dict_schema.specs.Sound.{IsSoundItem};
@@ -72,6 +73,16 @@ impl<S: Spawner, K: Clock, C: DictAt<S>, F: FileAt> DeskOver<S, K, C, F> {
         }
     }
 
+    /// Each version that a dictionary's viewer sees is one that its kind allows.
+    pub fn origins(&self)
+        ensures { (d : ℕ) → EachHasFact C.allows
+            (view_at C.view (⟦<DeskOver<S, K, C, F> as Desk>⟧.state self.now).dictionaries d) }
+    {
+        for d in 0..self.dictionaries.len() {
+            self.dictionaries[d].versions();
+        }
+    }
+
     /// Hands each dictionary the item that stands in its place now.
     fn follow(&mut self, alloc: Global, items: ListOf<Item>, now: u64) -> Counts
         requires stand { AllStand self.old.items items }
@@ -100,6 +111,25 @@ impl<S: Spawner, K: Clock, C: DictAt<S>, F: FileAt> DeskOver<S, K, C, F> {
             place += 1;
         }
         counts
+    }
+}
+
+impl<S: Spawner, K: Clock, C: DictAt<S> + Drop, F: FileAt> DeskOver<S, K, C, F> {
+    /// The spawner, the clock and the file, as the desk leaves them.
+    pub fn into_parts(self) -> (S, K, F)
+        ensures children { children_of S.scripts S.starts result.0 ≡ (⟦<DeskOver<S, K, C, F> as Desk>⟧.state self).children }
+        ensures moments { K.moments result.1 ≡ (⟦<DeskOver<S, K, C, F> as Desk>⟧.state self).moments }
+        ensures file { F.state result.2 ≡ (⟦<DeskOver<S, K, C, F> as Desk>⟧.state self).file }
+    {
+        let DeskOver {
+            spawner,
+            clock,
+            file,
+            items: _items,
+            dictionaries: _dictionaries,
+            reloads: _reloads,
+        } = self;
+        (spawner, clock, file)
     }
 }
 

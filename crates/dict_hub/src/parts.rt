@@ -14,7 +14,7 @@ ghost use Rattle.dict_hub.specs.Changes.{IsFileFault};
 ghost use Rattle.dict_hub.specs.Over.{Children, children_of};
 ghost use Rattle.loader.specs.declared.answers.LoadEnd.{LoadEnd};
 ghost use Rattle.loader.specs.declared.answers.StatusRow.{StatusRow};
-ghost use Rattle.version_slot.specs.Views.{Entered, IsNewestOf};
+ghost use Rattle.version_slot.specs.Views.{EachHasFact, Entered, IsNewestOf};
 ghost use Rattle.version_slot.specs.declared.seen.EnterFault.{EnterFault};
 
 use child_io::Spawner;
@@ -39,6 +39,9 @@ pub trait DictAt<S: Spawner> {
     /// Its name, which stays.
     ghost name: { State → List ℕ };
 
+    /// What holds of each version of its view over those before it.
+    ghost allows: { List Contents → Contents → Type 0 };
+
     /// What the calls do, as far as that is told.
     ghost entered: { State → Result (Entered Contents) EnterFault → State → Type 0 };
 
@@ -55,6 +58,11 @@ pub trait DictAt<S: Spawner> {
 
     /// How often an entering of its viewer was refused.
     ghost refusals: { Self → ℕ };
+
+    /// How many versions its view has.
+    fn versions(&self) -> u64
+        ensures number { result ≡ length (view (state self.now)) }
+        ensures fact { EachHasFact allows (view (state self.now)) };
 
     /// One entering of its viewer.
     fn enter(&mut self) -> Result<Seen<Version<Uncounted>>, EnterFault>

@@ -16,7 +16,7 @@ use dict_version::Version;
 use loader::{BoardState, Folder, LoadEnd, Loader, OriginOf, StatusRow};
 use std::alloc::Global;
 use std::marker::Model;
-use version_slot::{End, EnterFault, PlainSlot, PlainToken, Seen, Viewer};
+use version_slot::{End, EnterFault, PlainSlot, PlainToken, Publisher, Seen, Viewer};
 
 /// A slot as its one viewer. What names the slot is its list: to leave the slot is to leave the list.
 #[derive(Drop)]
@@ -108,6 +108,8 @@ impl<S: Spawner, F: Folder> DictAt<S> for PlainDict<S, F> {
 
     ghost name = { λ state. state.loader.definition.name };
 
+    ghost allows = { HasOrigin S.ran F.folder };
+
     ghost entered = { PlainEntered };
 
     ghost taught = { PlainTaught };
@@ -121,6 +123,10 @@ impl<S: Spawner, F: Folder> DictAt<S> for PlainDict<S, F> {
     ghost judged = { PlainJudged };
 
     ghost refusals = { λ _. 0 };
+
+    fn versions(&self) -> u64 {
+        self.view.slot.number()
+    }
 
     fn enter(&mut self) -> Result<Seen<Version<Uncounted>>, EnterFault> {
         self.view.slot.enter()

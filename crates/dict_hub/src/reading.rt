@@ -81,6 +81,14 @@ impl<'a, F: Shelf> DefinitionsFile<'a, F> {
     {
         DefinitionsFile { shelf, name }
     }
+
+    /// The shelf, with the readings that are left.
+    pub fn into_shelf(self) -> F
+        ensures { F.readings result ≡ (⟦<DefinitionsFile<'a, F> as FileAt>⟧.state self).readings }
+    {
+        let DefinitionsFile { shelf, name: _name } = self;
+        shelf
+    }
 }
 
 impl<'a, F: Shelf> FileAt for DefinitionsFile<'a, F> {

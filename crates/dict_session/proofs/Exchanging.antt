@@ -1,11 +1,11 @@
 -- One request: the moment, what is due, and the calls that it asks for.
-use Rattle.std.proofs.Common.{◌≡◌, ◌≤◌, ◌<◌, ◌==◌, ◌++◌, ◌∙◌, ◌⊎◌, ℕ, zero, suc, List, [], ◌∷◌, Bool, true, false, Option, Some, None, Ok, Err}
+use Rattle.std.proofs.Common.{◌≡◌, ◌≤◌, ◌<◌, ◌==◌, ◌++◌, ◌∙◌, ℕ, zero, suc, List, [], ◌∷◌, Bool, true, false, Option, Some, None, Ok, Err}
 use Rattle.std.proofs.Common.{slice_index_or, length, max, arith, refl, sym, ap, subst, inl, inr, if◌then◌else◌}
 use Rattle.std.proofs.lemmas.Bool.{eq-eqb, eqb-true, true≢false}
 use Rattle.std.proofs.lemmas.List.{length-set}
 use Rattle.std.specs.Prelude.{replicate, slice_set}
 use Rattle.dict_schema.specs.declared.definition.Item.{Item}
-use Rattle.dict_session.proofs.Acting.{floor_append, floor_mono, moved_append, moved_before, moved_moment, moved_none}
+use Rattle.dict_session.proofs.Acting.{floor_append, moved_append, moved_before, moved_moment, moved_none}
 use Rattle.dict_session.proofs.Telling.{tells_none}
 use Rattle.dict_session.specs.Acts.{Act, Before, Moment}
 use Rattle.dict_schema.specs.declared.definition.Definition.{Definition}
@@ -14,7 +14,7 @@ use Rattle.dict_session.specs.Answers.{Answers, CallAnswers, CallsOf, FetchAnswe
 use Rattle.wire_text.specs.declared.request.Asked.{Asked}
 use Rattle.dict_session.specs.Asks.{IsRequestAsk}
 use Rattle.dict_session.specs.Facts.{Facts, Grows}
-use Rattle.dict_session.specs.Floors.{Moved, floor_after}
+use Rattle.dict_session.specs.Floors.{floor_after}
 use Rattle.dict_session.specs.Serving.{Answered, OrNoMemory, Tells}
 use Rattle.dict_session.specs.Session.{KeepsUp, acts_for, floor_of}
 use Rattle.dict_session.specs.Turns.{AnsweredAt, Exchanged, RaisedAt, empty_caller}

@@ -1,10 +1,9 @@
 -- Lookups by key, and calls of functions: what follows from what their desk answered.
-use Rattle.std.proofs.Common.{◌≡◌, ◌≢◌, ◌≤◌, ◌<◌, ◌∙◌, ◌⊎◌, ◌^◌, ℕ, List, [], ◌∷◌, Option, Some, None, Result, Ok, Err}
-use Rattle.std.proofs.Common.{length, arith, refl, sym, ap, subst, inl, inr}
+use Rattle.std.proofs.Common.{◌≡◌, ◌≤◌, ◌∙◌, ℕ, List, [], ◌∷◌, Some, Result, Ok, Err}
+use Rattle.std.proofs.Common.{length, arith, refl, sym, subst, inl, inr}
 use Rattle.std.proofs.lemmas.Slice.Zip.{AllZip-long}
-use Rattle.std.specs.Prelude.{IfOk, slice_get}
-use Rattle.std.specs.List.{AllZip}
-use Rattle.cache_layout.specs.Fetching.{FitsReply, IsKeyOf, key_types}
+use Rattle.std.specs.Prelude.{slice_get}
+use Rattle.cache_layout.specs.Fetching.{key_types}
 use Rattle.dict_functions.proofs.AskedLines.{few-lines}
 use Rattle.dict_functions.specs.Asking.{IsAsked}
 use Rattle.dict_functions.specs.Calls.{AnswersCall, AreArguments, AreGiven, argument_types}
@@ -18,14 +17,13 @@ use Rattle.dict_session.proofs.Acting.{moved_called, moved_keyed, moved_none}
 use Rattle.dict_session.proofs.Answering.{which_reply}
 use Rattle.dict_session.proofs.Telling.{tells_called, tells_keyed, tells_none}
 use Rattle.dict_session.specs.Acts.{Called, Keyed}
-use Rattle.dict_session.specs.Answers.{CallAnswers, FetchAnswers, no_memory}
-use Rattle.dict_session.specs.Facts.{EachFetched, EachReturned, Facts, Grows, IsFetched}
+use Rattle.dict_session.specs.Answers.{CallAnswers, FetchAnswers}
+use Rattle.dict_session.specs.Facts.{EachFetched, EachReturned, Facts, Grows}
 use Rattle.dict_session.specs.Items.{IsFunctionItem, IsKeyedItem}
 use Rattle.dict_session.specs.Serving.{Answered, Tells}
 use Rattle.dict_session.specs.declared.answer.Answer.{Answer}
 use Rattle.dict_session.specs.declared.ask.Ask.TheVariants as ask
 use Rattle.dict_value.specs.Memory.{UnlessNoMemory}
-use Rattle.dict_value.specs.Values.{FitsColumn}
 use Rattle.dict_value.specs.declared.fault.CallFault.{CallFault}
 use Rattle.dict_value.specs.declared.fault.FetchFault.{FetchFault}
 use Rattle.dict_value.specs.declared.value.FetchedRow.{FetchedRow}

@@ -1,6 +1,6 @@
 -- Requests that were answered one after another, and how a session ends.
-use Rattle.std.proofs.Common.{◌≡◌, ◌≤◌, ◌<◌, ◌+◌, ◌++◌, ◌∙◌, ◌⊎◌, ℕ, List, [], ◌∷◌, Bool, true, false, Option, Some, None, Result, Ok, Err}
-use Rattle.std.proofs.Common.{append_assoc, length, length-append, take, arith, refl, sym, ap, subst, inl, inr}
+use Rattle.std.proofs.Common.{◌≡◌, ◌+◌, ◌++◌, ◌∙◌, ℕ, List, [], ◌∷◌, Option, Some, None}
+use Rattle.std.proofs.Common.{append_assoc, length-append, arith, refl, sym, ap, subst, inl, inr}
 use Rattle.std.proofs.lemmas.Grind.{flat_map-append}
 use Rattle.std.proofs.lemmas.List.{append-nil}
 use Rattle.std.specs.Io.KnownBytes.{prepend_known, append_known}
@@ -8,7 +8,6 @@ use Rattle.std.specs.List.{AllByRecursion}
 use mathlib.Core.List.{IsPrefix}
 use Rattle.dict_io.proofs.Known.{append_known-none, append_known-twice, prepend_known-twice}
 use Rattle.dict_io.specs.Links.{Ends}
-use Rattle.dict_schema.specs.declared.definition.Item.{Item}
 use Rattle.dict_session.proofs.Acting.{all_append, moved_append, moved_none}
 use Rattle.dict_session.proofs.Exchanging.{keeps_append, keeps_none}
 use Rattle.dict_session.specs.Facts.{Facts}
@@ -20,7 +19,7 @@ use Rattle.dict_session.specs.declared.session.SessionEnd.{SessionEnd}
 use Rattle.dict_session.specs.declared.session.SessionEnd.TheVariants as end
 use Rattle.line_reader.specs.Reading.{NothingLeft}
 use Rattle.load_core.specs.declared.caller.CallerCore.{CallerCore}
-use Rattle.version_slot.proofs.Views.{prefix-append, prefix-self}
+use Rattle.version_slot.proofs.Views.{prefix-self}
 use Rattle.wire_text.specs.Replies.{reply_text}
 use Rattle.wire_text.specs.declared.lines.TheConstants.{MOST_REQUESTS}
 

@@ -1,38 +1,36 @@
 -- One turn: what was taken of a link, and what was written to it.
-use Rattle.std.proofs.Common.{◌≡◌, ◌≢◌, ◌≤◌, ◌<◌, ◌++◌, ◌∙◌, ◌⊎◌, ℕ, List, [], ◌∷◌, Bool, true, false, Option, Some, None, Result, Ok, Err}
+use Rattle.std.proofs.Common.{◌≡◌, ◌≢◌, ◌≤◌, ◌++◌, ◌∙◌, ◌⊎◌, ℕ, List, [], ◌∷◌, Bool, true, false, Result, Ok, Err}
 use Rattle.std.proofs.Common.{IsErr, length, take, arith, refl, sym, ap, subst, inl, inr}
 use Rattle.std.proofs.lemmas.Bool.{ltb-false, ltb-true}
 use Rattle.std.proofs.lemmas.List.{append-nil}
 use Rattle.std.specs.Prelude.{nat_lt}
 use Rattle.std.specs.Io.KnownBytes.{prepend_known, append_known}
 use mathlib.Core.List.{IsPrefix}
-use Rattle.dict_functions.specs.Asking.{IsAsked}
-use Rattle.dict_io.proofs.Known.{append_known-none, prepend_known-twice}
+use Rattle.dict_io.proofs.Known.{prepend_known-twice}
 use Rattle.dict_io.specs.Links.{Ends, Puts}
 use Rattle.dict_io.specs.Outside.{HasCause}
 use Rattle.dict_io.specs.declared.outside.Failed.{Failed}
 use Rattle.dict_session.proofs.Running.{prepend_none, run_closed, run_one, run_still}
 use Rattle.dict_session.specs.Acts.{Act}
 use Rattle.dict_session.specs.Facts.{Facts}
-use Rattle.dict_session.specs.Floors.{Moved}
-use Rattle.dict_session.specs.Session.{AreRequests, Ending, Exchange, FaultsFor, IsAskedIn, KeepsUp, LastQuits, NoneQuits, Place, Run, acts_for, all_acts}
+use Rattle.dict_session.specs.Session.{AreRequests, Exchange, FaultsFor, IsAskedIn, KeepsUp, LastQuits, NoneQuits, Place, Run, acts_for}
 use Rattle.dict_session.specs.Session.{asks_to_quit, place, too_long_text}
-use Rattle.dict_session.specs.Turns.{Going, IsRequestTurn, IsTurn, IsTurnEnd, TurnFaults, closed_by, turn_by}
+use Rattle.dict_session.specs.Turns.{IsRequestTurn, IsTurn, TurnFaults, closed_by, turn_by}
 use Rattle.dict_session.specs.declared.session.SessionEnd.{SessionEnd}
 use Rattle.dict_session.specs.declared.session.SessionEnd.TheVariants as end
 use Rattle.dict_session.specs.declared.session.Turn.{Turn}
 use Rattle.dict_session.specs.declared.session.Turn.TheVariants as turn
 use Rattle.dict_session.proofs.Exchanging.{keeps_none}
-use Rattle.line_reader.specs.Reading.{IsLine, IsLong, NothingLeft}
+use Rattle.line_reader.specs.Reading.{NothingLeft}
 use Rattle.load_core.specs.declared.caller.CallerCore.{CallerCore}
-use Rattle.request_reader.specs.Taking.{IsHeardAs, IsRequestText, IsUnfinished, Takes, TakesFor}
+use Rattle.request_reader.specs.Taking.{IsRequestText, Takes, TakesFor}
 use Rattle.request_reader.specs.declared.reader.Asking.{Asking}
 use Rattle.request_reader.specs.declared.reader.Asking.TheVariants as asking
 use Rattle.request_reader.specs.declared.reader.Taken.{Taken}
 use Rattle.request_reader.specs.declared.reader.Taken.TheVariants as taken
 use Rattle.version_slot.proofs.Views.{prefix-self, prefix-take}
 use Rattle.wire_text.specs.Replies.{reply_text}
-use Rattle.wire_text.specs.RequestTexts.{FirstRequest, Heard, HeardOf, IsTooLarge}
+use Rattle.wire_text.specs.RequestTexts.{Heard, HeardOf, IsTooLarge}
 use Rattle.wire_text.specs.declared.lines.TheConstants.{MOST_BLOCK_LINES}
 use Rattle.wire_text.specs.declared.request.Request.{Request}
 use Rattle.wire_text.specs.declared.request.Request.TheVariants as request

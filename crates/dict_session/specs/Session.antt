@@ -10,12 +10,9 @@ use Rattle.dict_session.specs.Acts.{Act, Moment, Before}
 use Rattle.dict_session.specs.Answers.{IsServed}
 use Rattle.dict_session.specs.Facts.{Facts}
 use Rattle.dict_session.specs.Floors.{Moved, floor_after}
-use Rattle.dict_session.specs.Serving.{IsAskedRequest, Tells}
-use Rattle.dict_session.specs.declared.answer.Answer.{Answer}
+use Rattle.dict_session.specs.Serving.{IsAskedRequest}
 use Rattle.dict_session.specs.declared.session.SessionEnd.{SessionEnd}
 use Rattle.dict_session.specs.declared.session.SessionEnd.TheVariants as end
-use Rattle.dict_session.specs.declared.session.Turn.{Turn}
-use Rattle.dict_session.specs.declared.session.Turn.TheVariants as turn
 use Rattle.line_reader.specs.Reading.{IsLine, IsLong, NothingLeft}
 use Rattle.load_core.specs.declared.caller.CallerCore.{CallerCore}
 use Rattle.request_reader.specs.Taking.{IsRequestText, IsUnfinished}

@@ -4,7 +4,6 @@ use Rattle.std.specs.Prelude.{if◌then◌else◌}
 use Rattle.std.specs.List.{AllByRecursion}
 use Rattle.dict_io.specs.Links.{Ends, Puts}
 use Rattle.dict_io.specs.declared.outside.Failed.{Failed}
-use Rattle.dict_schema.specs.declared.definition.Item.{Item}
 use Rattle.dict_session.specs.Acts.{Act}
 use Rattle.dict_session.specs.Answers.{IsServed}
 use Rattle.dict_session.specs.Facts.{Facts}

@@ -1,4 +1,4 @@
-use Rattle.dict_session.proofs.Exchanging.{asked_at, bad_at, large_at, none_at}
+use Rattle.dict_session.proofs.Exchanging.{bad_at, large_at, none_at}
 use Rattle.dict_session.proofs.session.answer_asking.Goals as goal
 
 pub returns-in-Bad : goal.returns-in-Bad

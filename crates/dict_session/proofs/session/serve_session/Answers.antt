@@ -1,4 +1,4 @@
-use Rattle.std.proofs.Common.{◌≡◌, ◌∙◌, [], ap, inl, inr, refl, subst, sym, length, List, ℕ}
+use Rattle.std.proofs.Common.{◌∙◌, [], ap, inl, inr, refl, subst, length, List, ℕ}
 use Rattle.std.proofs.lemmas.List.{length-replicate}
 use Rattle.dict_session.proofs.Exchanging.{zero_floors}
 use Rattle.dict_session.proofs.Running.{ending_none}
