@@ -84,7 +84,8 @@ impl<'a, F: Shelf> DefinitionsFile<'a, F> {
 
     /// The shelf, with the readings that are left.
     pub fn into_shelf(self) -> F
-        ensures { F.readings result ≡ (⟦<DefinitionsFile<'a, F> as FileAt>⟧.state self).readings }
+        ensures { file_state (F.readings result) self.entry.name.now
+            ≡ ⟦<DefinitionsFile<'a, F> as FileAt>⟧.state self.entry }
     {
         let DefinitionsFile { shelf, name: _name } = self;
         shelf

@@ -23,14 +23,14 @@ run 21 once d.sql </dev/null
 run 22 once d.sql x </dev/null
 run 23 once d.sql "$(printf '\377')" </dev/null
 run 24 serve d.sql 127.0.0.1:0 1 1 </dev/null
-# the definitions file is missing, a folder, another text, too long; it has a fault in its second line, or another layout
+# the definitions file is missing, a folder, another text, too long; it has a fault in its second line, or a layout that is not served
 run 30 once missing.sql 1 </dev/null
 run 31 once . 1 </dev/null
 run 40 once runs.sh 1 </dev/null
 printf 'CREATE DICTIONARY d\n(id Float64)' >fault.sql
 run 41 once fault.sql 1 </dev/null
-sed 's/FLAT/HASHED/' d.sql >hashed.sql
-run 42 once hashed.sql 1 </dev/null
+sed 's/FLAT()/DIRECT/' d.sql >direct.sql
+run 42 once direct.sql 1 </dev/null
 head -c 4194305 /dev/zero >long.sql
 run 90 once long.sql 1 </dev/null
 # the input is answered, is a folder, is too long

@@ -6,6 +6,7 @@ use Rattle.std.specs.Cmp.Lexicographic.{pointwise}
 use lib.Dec.{eqb}
 use Rattle.std.proofs.lemmas.Slice.Eq.{slice_eq-Decides}
 use Rattle.std.proofs.lemmas.Bool.Decides.{Decides-eqb}
+use Rattle.std.specs.Str.Parse.{digits_value}
 use Rattle.dict_value.specs.Digits.{IsDigits}
 use Rattle.dictd.specs.CommandLine.{IsOnce}
 
@@ -17,11 +18,12 @@ three (x ∷ y ∷ z ∷ []) a b c low high p q r = let f : a ≡ x = p in let g
 three (x ∷ y ∷ z ∷ w ∷ ws) a b c low high p q r = absurd (omega arith)
 
 -- three words, of which the first is `once` and the last a number
-pub once-words : {X : Type 0} (text_of : X → List ℕ) (words : List X) (verb file seed : X) (verb_text file_text seed_text : List ℕ) → words ≡ verb ∷ file ∷ seed ∷ [] → verb_text ≡ text_of verb → file_text ≡ text_of file → seed_text ≡ text_of seed → verb_text ≡ codes "once" → IsDigits seed_text → IsOnce (map text_of words) file_text
-once-words text_of words verb file seed verb_text file_text seed_text list v f s e digits = record {
-  seed = seed_text;
-  spelled = ap (map text_of) list ∙ ap (λ z. z ∷ text_of file ∷ text_of seed ∷ []) (sym v ∙ e) ∙ ap (λ z. codes "once" ∷ z ∷ text_of seed ∷ []) (sym f) ∙ ap (λ z. codes "once" ∷ file_text ∷ z ∷ []) (sym s);
-  number = digits;
+pub once-words : {X : Type 0} (text_of : X → List ℕ) (words : List X) (verb name seed : X) (verb_text name_text seed_text : List ℕ) (number : ℕ) → words ≡ verb ∷ name ∷ seed ∷ [] → verb_text ≡ text_of verb → name_text ≡ text_of name → seed_text ≡ text_of seed → verb_text ≡ codes "once" → IsDigits seed_text × (number ≡ digits_value 10 seed_text) → IsOnce (map text_of words) name_text number
+once-words text_of words verb name seed verb_text name_text seed_text number list v f s e digits = record {
+  digits = seed_text;
+  spelled = ap (map text_of) list ∙ ap (λ z. z ∷ text_of name ∷ text_of seed ∷ []) (sym v ∙ e) ∙ ap (λ z. codes "once" ∷ z ∷ text_of seed ∷ []) (sym f) ∙ ap (λ z. codes "once" ∷ name_text ∷ z ∷ []) (sym s);
+  number = digits.0;
+  seed_is = digits.1;
 }
 
 -- a text that isn't told apart from the verb is it

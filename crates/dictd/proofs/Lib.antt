@@ -1,15 +1,3 @@
-pub mod ClearDefaults
 pub mod CommandWords
-pub mod CoreRuns
-pub mod FileReads
-pub mod Fitting
-pub mod Lines
-pub mod Loading
-pub mod OneEnd
-pub mod Opening
-pub mod Places
-pub mod Requesting
-pub mod RowKeys
-pub mod Runs
-pub mod TableMade
 pub mod Telling
+pub mod Serving

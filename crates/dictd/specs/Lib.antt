@@ -1,12 +1,4 @@
-pub mod Asking
+-- The definitions that contracts cite.
 pub mod CommandLine
-pub mod Definitions
-pub mod Inputs
-pub mod Judged
-pub mod Loads
-pub mod OneRun
-pub mod Printing
-pub mod Requests
-pub mod Sessions
 pub mod Statuses
-pub mod Tables
+pub mod OneRun

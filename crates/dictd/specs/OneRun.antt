@@ -1,150 +1,145 @@
--- One run of `once`: what it reads, starts and writes, and its status.
-use Rattle.std.specs.Prelude.{◌≡◌, ◌<◌, ◌≤◌, ℕ, List, [], ◌∷◌, ◌++◌, ◌⊎◌, Option, Some, IfSome, ⊤, Result, Ok, Err}
-use Rattle.std.specs.Prelude.{codes, length, map, take}
-use Rattle.std.specs.Io.KnownBytes.{prepend_known, append_known}
-use Rattle.child_io.specs.declared.child.Script.{Script}
-use Rattle.child_io.specs.Words.{source_words, IsFolder}
-use Rattle.dict_io.specs.declared.outside.Failed.{Failed as WriteFailed}
-use Rattle.dict_schema.specs.declared.definition.Definition.{Definition}
+-- One run of `once`: the definitions, the first loads, the session, and how it ends.
+use Rattle.std.specs.Prelude.{◌≡◌, ◌⊎◌, ℕ, List, Option, Result, Ok, Err, codes, length, true}
+use Rattle.child_io.specs.Words.{IsFolder}
+use Rattle.dict_hub.specs.Over.{AllLoaded, Children, LoadUpTo, Moves, OverState, Ticked, moves_of, over_facts, over_state, view_at}
+use Rattle.dict_hub.specs.Plain.{PlainDue, PlainEntered, PlainJudged, PlainLoaded, PlainLoadedAs, PlainState, PlainTaught, opened}
+use Rattle.dict_hub.specs.Readings.{FileState, ReadsItems, ReadsOnce, file_state}
+use Rattle.dict_io.specs.Links.{Ends}
+use Rattle.dict_io.specs.declared.outside.ShelfFault.{ShelfFault}
 use Rattle.dict_schema.specs.declared.definition.Item.{Item}
-use Rattle.load_core.specs.DictSteps.{empty_core}
-use Rattle.dictd.specs.declared.input.InputEnd.{InputEnd}
-use Rattle.dictd.specs.declared.input.InputEnd.TheVariants.{Ended, Failed, TooLong}
-use Rattle.dictd.specs.declared.status.Status.{Status}
-use Rattle.dictd.specs.declared.status.Status.TheVariants.{Done, Usage, DefsUnread, DefsRefused, ReadFault, WriteFault}
-use Rattle.dictd.specs.declared.status.Status.TheVariants.{LineTooLong, DefsTooLong, NoMemory}
+use Rattle.dict_session.specs.Facts.{Facts}
+use Rattle.dict_session.specs.Session.{Serves}
+use Rattle.dict_session.specs.declared.desk.ConfigEnd.{ConfigEnd}
+use Rattle.dict_session.specs.declared.desk.ConfigEnd.TheVariants as config
+use Rattle.dict_session.specs.declared.session.SessionEnd.{SessionEnd}
+use Rattle.dict_session.specs.declared.session.SessionEnd.TheVariants as end
 use Rattle.dictd.specs.CommandLine.{IsOnce}
-use Rattle.dictd.specs.Definitions.{AreServed, TextDefines, IsRefusedText, dictionaries_in}
-use Rattle.dictd.specs.Inputs.{EndsInput}
-use Rattle.dictd.specs.Loads.{Holding, LoadsEach, Ran}
-use Rattle.dictd.specs.Sessions.{Serves, ServesFront, State}
+use Rattle.dictd.specs.declared.status.Status.{Status}
+use Rattle.dictd.specs.declared.status.Status.TheVariants as status
+use Rattle.loader.specs.Origins.{HasOrigin, Ran}
+use Rattle.version_slot.specs.Views.{EachHasFact}
 
--- what is known of the children, the input and the output
-pub record Outside : Type 0 where
-  pub scripts : Option (List Script)
-  pub left : Option (List ℕ)
-  pub written : Option (List ℕ)
+-- what a shelf tells: that it answered so, what its next reading finds of a name, and the readings behind that
+pub record ShelfTold (R : Type 0) : Type 1 where
+  pub filed : List ℕ → Result (List ℕ) ShelfFault → Type 0
+  pub file : R → List ℕ → Option (Option (List ℕ))
+  pub later : R → R
 
--- the greatest number of bytes of a definitions file
-abbrev pub most_definitions : ℕ
-most_definitions = 4194304
+abbrev pub shelf_told : {R : Type 0} → (List ℕ → Result (List ℕ) ShelfFault → Type 0)
+    → (R → List ℕ → Option (Option (List ℕ))) → (R → R) → ShelfTold R
+shelf_told filed file later = record { filed = filed; file = file; later = later }
 
--- where the file is told, it has this text, within the limit
-abbrev pub IsFile : Option (Option (List ℕ)) → List ℕ → Type 0
-IsFile told text = IfSome told (λ file. (file ≡ Some text) × (length text ≤ most_definitions))
+-- what is known of the outside beside the link: the readings of the shelf, the moments, and the children
+pub record Outer (R : Type 0) : Type 0 where
+  pub readings : R
+  pub moments : Option (List ℕ)
+  pub children : Children
 
--- where the file is told, it is there and has more bytes than the limit
-abbrev pub IsLongFile : Option (Option (List ℕ)) → Type 0
-IsLongFile told = IfSome told (λ file. (text : List ℕ) × (file ≡ Some text) × (most_definitions < length text))
+abbrev pub outer : {R : Type 0} → R → Option (List ℕ) → Children → Outer R
+outer readings moments children = record { readings = readings; moments = moments; children = children }
 
--- a dictionary before its first load; a program that needs no shell lies in the folder
-abbrev pub unloaded : List ℕ → Definition → Holding
-unloaded folder d = record { definition = d; words = source_words d.source folder; versions = []; core = empty_core }
+-- ---- the desk of one thread
 
--- the dictionaries of a file before their first loads
-abbrev pub opening : List ℕ → List Item → List Holding
-opening folder items = map (unloaded folder) (dictionaries_in items)
+abbrev pub Local : Type 0 → Type 0
+Local R = OverState PlainState (FileState R)
 
--- each dictionary was loaded once, in the order of the file, and the input read so far
-pub record Begins (ran : Ran) (opened : List Holding) (before : Outside) (loaded : State) (end : InputEnd)
-    (asked : List ℕ) (left : Option (List ℕ)) : Type 0 where
-  pub loads : LoadsEach ran opened before.scripts loaded.held loaded.scripts
-  pub read : before.left ≡ prepend_known asked left
-  pub ended : EndsInput end asked left
+abbrev pub local_moves : {R : Type 0} → ShelfTold R → Moves PlainState (FileState R)
+local_moves shelf = moves_of PlainEntered PlainTaught PlainLoaded PlainDue PlainLoadedAs PlainJudged
+    (ReadsOnce shelf.filed shelf.file shelf.later)
 
--- the run of these dictionaries whose input ended so: the session's replies were written
-pub record RunsTo (end : InputEnd) (ran : Ran) (opened : List Holding) (before after : Outside) : Type 0 where
-  pub loaded : State
-  pub asked : List ℕ
-  pub begins : Begins ran opened before loaded end asked after.left
-  pub out : List ℕ
-  pub last : State
-  pub served : Serves ran end asked loaded out last
-  pub scripts : after.scripts ≡ last.scripts
-  pub written : after.written ≡ append_known before.written out
+abbrev pub local_facts : {R : Type 0} → ShelfTold R → Facts (Local R)
+local_facts shelf = over_facts (λ (one : PlainState). one.list) (local_moves shelf)
 
--- the same where a write failed: a front of the replies was written
-pub record RunsToFront (ran : Ran) (opened : List Holding) (before after : Outside) : Type 0 where
-  pub end : InputEnd
-  pub loaded : State
-  pub asked : List ℕ
-  pub begins : Begins ran opened before loaded end asked after.left
-  pub out : List ℕ
-  pub last : State
-  pub served : ServesFront ran end asked loaded out last
-  pub scripts : after.scripts ≡ last.scripts
-  pub written : after.written ≡ append_known before.written out
+-- before the first load: the items, the file that they came from, and what is outside
+abbrev pub opening : {R : Type 0} → List Item → (name folder : List ℕ) → (seed : ℕ) → Outer R → Local R
+opening items name folder seed o =
+    over_state items (file_state o.readings name) o.moments o.children (opened folder seed 0 items) true
 
--- no child was started, or those of the first loads
-abbrev pub StartsEach : Ran → List Holding → Outside → Outside → Type 0
-StartsEach ran opened before after =
-    (after.scripts ≡ before.scripts)
-    ⊎ ((loaded : State) × LoadsEach ran opened before.scripts loaded.held loaded.scripts
-    × (after.scripts ≡ loaded.scripts))
+-- what is outside, as the desk has it
+abbrev pub outer_of : {R : Type 0} → Local R → Outer R
+outer_of s = outer s.file.readings s.moments s.children
 
--- the status of an input that ended so and was served so
-abbrev pub status_after : Result (Unit {0}) WriteFailed → InputEnd → Status
-status_after (Ok _) Ended = Done
-status_after (Ok _) Failed = ReadFault
-status_after (Ok _) TooLong = LineTooLong
-status_after (Err _) end = WriteFault
+-- each version that a dictionary has came from a child that really ran: each entry of its list has an origin
+abbrev pub AllOrigins : {R : Type 0} → Ran → List ℕ → Local R → Type 0
+AllOrigins ran folder s =
+    (d : ℕ) → EachHasFact (HasOrigin ran folder) (view_at (λ (one : PlainState). one.list) s.dictionaries d)
 
--- the run of these dictionaries by its status
-abbrev pub ServesRun : Ran → List Holding → Outside → Outside → Status → Type 0
-ServesRun ran opened before after Done = RunsTo Ended ran opened before after
-ServesRun ran opened before after ReadFault = RunsTo Failed ran opened before after
-ServesRun ran opened before after LineTooLong = RunsTo TooLong ran opened before after
-ServesRun ran opened before after WriteFault = RunsToFront ran opened before after
-ServesRun ran opened before after NoMemory = (after.written ≡ before.written) × StartsEach ran opened before after
-ServesRun ran opened before after Usage = ⊥
-ServesRun ran opened before after DefsUnread = ⊥
-ServesRun ran opened before after (DefsRefused line fault) = ⊥
-ServesRun ran opened before after DefsTooLong = ⊥
+-- the first moment was taken, each dictionary was loaded once, in the order of the file, and the session was served
+pub record Runs {R : Type 0} (shelf : ShelfTold R) (ran : Ran) (folder : List ℕ) (first : Local R) (old : Ends)
+    (ended : SessionEnd) (last : Local R) (new : Ends) : Type 0 where
+  pub now : ℕ
+  pub begun : Local R
+  pub loaded : Local R
+  pub ticked : Ticked first now begun
+  pub loads : LoadUpTo (local_moves shelf) now (length first.items) begun loaded
+  pub serves : Serves (local_facts shelf) loaded old ended last new
+  pub origins : AllOrigins ran folder last
 
--- a text's items, each of which is served, or the status that it ends the run with
-abbrev pub ReadsItems : List ℕ → Result (List Item) Status → Type 0
-ReadsItems text (Ok items) = TextDefines text items × AreServed items
-ReadsItems text (Err (DefsRefused line fault)) = IsRefusedText text line fault
-ReadsItems text (Err NoMemory) = ⊤
-ReadsItems text (Err other) = ⊥
+-- ---- the run, by its status
 
--- the same of a file
-abbrev pub ReadsDefinitions : Option (Option (List ℕ)) → Result (List Item) Status → Type 0
-ReadsDefinitions told (Err DefsTooLong) = IsLongFile told
-ReadsDefinitions told (Err DefsUnread) = ⊤
-ReadsDefinitions told (Err NoMemory) = ⊤
-ReadsDefinitions told read = (text : List ℕ) × IsFile told text × ReadsItems text read
+-- how the end of a session is told
+abbrev pub status_of : SessionEnd → Status
+status_of end.Quit = status.Done
+status_of end.Ended = status.Done
+status_of end.ReadFault = status.ReadFault
+status_of end.WriteFault = status.WriteFault
+status_of end.LineTooLong = status.LineTooLong
+status_of end.Spent = status.Spent
+status_of end.NoMemory = status.NoMemory
 
--- a run whose definitions were read: a file by the name in the words defines what is run, and its folder is where
--- programs that need no shell lie
-pub record RunsFile (words : List (List ℕ)) (file : List ℕ → Option (Option (List ℕ))) (ran : Ran)
-    (before after : Outside) (status : Status) : Type 0 where
-  pub name : List ℕ
-  pub called : IsOnce words name
-  pub text : List ℕ
-  pub told : IsFile (file name) text
-  pub items : List Item
-  pub defined : TextDefines text items
-  pub served : AreServed items
-  pub folder : List ℕ
-  pub in_folder : IsFolder name folder
-  pub run : ServesRun ran (opening folder items) before after status
+-- how a file without items is told
+abbrev pub status_for : ConfigEnd → Status
+status_for config.Unread = status.DefsUnread
+status_for config.TooLong = status.DefsTooLong
+status_for (config.Refused line place words) = status.DefsRefused line place words
+status_for _ = status.NoMemory
 
--- the words are those of `once`, and the file's text has no reading, or an item that isn't served
-pub record IsRefusedFile (words : List (List ℕ)) (file : List ℕ → Option (Option (List ℕ))) (status : Status)
-    : Type 0 where
-  pub name : List ℕ
-  pub called : IsOnce words name
-  pub read : ReadsDefinitions (file name) (Err status)
+-- what isn't served yet is told of the file's first byte
+abbrev pub IsUnserved : Status → Type 0
+IsUnserved (status.DefsRefused line place words) = (line ≡ 1) × (place ≡ 0) × (words.now ≡ codes "unsupported")
+IsUnserved _ = ⊥
 
--- the run by its status. Free are only want of memory, and how many bytes went through before a read or a write that failed
-abbrev pub OnceRun : List (List ℕ) → (List ℕ → Option (Option (List ℕ))) → Ran → Outside → Outside → Status → Type 0
-OnceRun words file ran before after Done = RunsFile words file ran before after Done
-OnceRun words file ran before after ReadFault = RunsFile words file ran before after ReadFault
-OnceRun words file ran before after WriteFault = RunsFile words file ran before after WriteFault
-OnceRun words file ran before after LineTooLong = RunsFile words file ran before after LineTooLong
-OnceRun words file ran before after Usage = ((name : List ℕ) → IsOnce words name → ⊥) × (after ≡ before)
-OnceRun words file ran before after DefsUnread = ((name : List ℕ) × IsOnce words name) × (after ≡ before)
-OnceRun words file ran before after (DefsRefused line fault) = IsRefusedFile words file (DefsRefused line fault) × (after ≡ before)
-OnceRun words file ran before after DefsTooLong = IsRefusedFile words file DefsTooLong × (after ≡ before)
-OnceRun words file ran before after NoMemory = (((name : List ℕ) × IsOnce words name) × (after ≡ before)) ⊎ RunsFile words file ran before after NoMemory
+-- the file was read once: what is outside afterwards
+abbrev pub once_read : {R : Type 0} → ShelfTold R → Outer R → Outer R
+once_read shelf o = outer (shelf.later o.readings) o.moments o.children
+
+-- a reading of the file gave this
+abbrev pub ReadsFrom : {R : Type 0} → ShelfTold R → R → List ℕ → Result (List Item) ConfigEnd → Type 0
+ReadsFrom shelf readings name result = ReadsItems shelf.filed (shelf.file readings name) name result
+
+-- a reading of the file gave these items, each of which is served; or it is told so
+abbrev pub ReadsServed : {R : Type 0} → ShelfTold R → R → List ℕ → Result (List Item) Status → Type 0
+ReadsServed shelf readings name (Ok items) = ReadsFrom shelf readings name (Ok items) × AllLoaded items
+ReadsServed shelf readings name (Err told) =
+    ((why : ConfigEnd) × ReadsFrom shelf readings name (Err why) × (told ≡ status_for why))
+    ⊎ ((items : List Item) × ReadsFrom shelf readings name (Ok items) × (AllLoaded items → ⊥) × IsUnserved told)
+    ⊎ (told ≡ status.NoMemory)
+
+-- the dictionaries of the items were served, or memory was refused before the first load
+pub data ServesIn {R : Type 0} (shelf : ShelfTold R) (ran : Ran) (items : List Item) (name folder : List ℕ) (seed : ℕ)
+    (o : Outer R) (old : Ends) (told : Status) (o' : Outer R) (new : Ends) : Type 0 where
+  refused : told ≡ status.NoMemory → o' ≡ o → new ≡ old → ServesIn shelf ran items name folder seed o old told o' new
+  served : (ended : SessionEnd) (last : Local R)
+      → Runs shelf ran folder (opening items name folder seed o) old ended last new → told ≡ status_of ended
+      → o' ≡ outer_of last → ServesIn shelf ran items name folder seed o old told o' new
+
+pub data OnceRun {R : Type 0} (shelf : ShelfTold R) (ran : Ran) (words : List (List ℕ)) (o : Outer R) (old : Ends)
+    (told : Status) (o' : Outer R) (new : Ends) : Type 0 where
+  -- the words have another form
+  misused : ((name : List ℕ) (seed : ℕ) → IsOnce words name seed → ⊥) → told ≡ status.Usage → o' ≡ o → new ≡ old
+      → OnceRun shelf ran words o old told o' new
+  -- the file has no items
+  unread : (name : List ℕ) (seed : ℕ) (why : ConfigEnd) → IsOnce words name seed → ReadsFrom shelf o.readings name (Err why)
+      → told ≡ status_for why → o' ≡ once_read shelf o → new ≡ old → OnceRun shelf ran words o old told o' new
+  -- an item of it isn't served yet, which is told of the file's first byte
+  unserved : (name : List ℕ) (seed : ℕ) (items : List Item) → IsOnce words name seed → ReadsFrom shelf o.readings name (Ok items)
+      → (AllLoaded items → ⊥) → IsUnserved told → o' ≡ once_read shelf o → new ≡ old
+      → OnceRun shelf ran words o old told o' new
+  -- memory was refused for the items
+  refused : (name : List ℕ) (seed : ℕ) → IsOnce words name seed → told ≡ status.NoMemory → o' ≡ once_read shelf o
+      → new ≡ old → OnceRun shelf ran words o old told o' new
+  -- the dictionaries of the file are served
+  served : (name : List ℕ) (seed : ℕ) (items : List Item) (folder : List ℕ) → IsOnce words name seed
+      → ReadsFrom shelf o.readings name (Ok items) → AllLoaded items → IsFolder name folder
+      → ServesIn shelf ran items name folder seed (once_read shelf o) old told o' new
+      → OnceRun shelf ran words o old told o' new

@@ -1,31 +1,21 @@
 //! dictd: a lookup server for dictionaries whose rows come from programs.
 //!
-//! Today it answers the lines of one input from the dictionaries of a definitions file, by `dictd once
-//! DEFS SEED`. It promises that what it writes, how often it starts a child, and the status that it ends
-//! with are the stated function of the words, the definitions file, the children's scripts and the
-//! input, where these are told, and that each status comes only where its cause stands. It takes no Wait
-//! and starts no thread.
+//! Today it answers the requests of one input from the dictionaries of a definitions file, by `dictd once DEFS SEED`. It
+//! promises that what it writes, which children it starts, and the status that it ends with come from the words, the
+//! definitions file, the moments, the children and the requests as the definitions say, and that each status comes only
+//! where its cause stands. It takes no Wait and starts no thread.
 #![tactic(auto)]
 
-mod definitions;
-mod dictionary;
-mod ending;
-mod input;
-mod laws;
-mod load;
 mod once;
-mod reply;
-mod request;
-mod session;
 mod status;
-mod table;
 #[cfg(test)]
 mod tests;
 mod words;
 
+use crate::once::Outside;
 use crate::status::{Status, tell};
 use child_io::OsSpawner;
-use dict_io::{FileShelf, StdSink, StdSource, SystemClock};
+use dict_io::{Both, FileShelf, StdSink, StdSource, SystemClock};
 use std::env;
 use std::io::{ErrorKind, Write};
 use std::process::ExitCode;
@@ -62,19 +52,11 @@ fn called_words(rt: &HostRuntime) -> Result<Vec<String>, Status> {
 /// Runs `once` over the real objects.
 fn run<W: Write>(rt: &HostRuntime, words: &[String], err: &mut StdSink<W>) -> Status {
     let alloc = rt.alloc();
-    let mut shelf = FileShelf::new(rt, alloc);
-    let mut spawner = OsSpawner::new(rt, alloc);
-    let mut clock = SystemClock::new(rt);
-    let mut input = StdSource::new(rt.stdin());
-    let mut out = StdSink::new(rt.stdout());
-    once::once(
-        alloc,
-        words,
-        &mut shelf,
-        &mut spawner,
-        &mut clock,
-        &mut input,
-        &mut out,
-        err,
-    )
+    let outside = Outside {
+        shelf: FileShelf::new(rt, alloc),
+        spawner: OsSpawner::new(rt, alloc),
+        clock: SystemClock::new(rt),
+    };
+    let mut link = Both::new(StdSource::new(rt.stdin()), StdSink::new(rt.stdout()));
+    once::once(alloc, words, outside, &mut link, err).status
 }

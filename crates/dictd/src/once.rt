@@ -1,210 +1,218 @@
 // The run of `once`.
-ghost use Rattle.std.specs.Prelude.{◌≡◌, ◌≢◌, ◌≤◌, ◌++◌, ◌∷◌, [], false, map, string_bytes, IfOk, IsErrOf, OnOk, All, length};
-ghost use Rattle.dict_io.specs.Outside.{HasCause, Rose, RoseWhere};
-ghost use Rattle.dict_schema.specs.Sound.{IsSoundItem};
-ghost use Rattle.dictd.specs.Definitions.{AreServed, TextDefines, IsRefusedText};
-ghost use Rattle.dictd.specs.OneRun.{OnceRun, ReadsDefinitions, ReadsItems, ServesRun, opening, status_after};
-ghost use Rattle.dictd.specs.Sessions.{holding};
+ghost use Rattle.std.specs.Prelude.{◌≡◌, ℕ, List, IsErrOf, false, map, string_bytes};
+ghost use Rattle.child_io.specs.Words.{IsFolder};
+ghost use Rattle.dict_hub.specs.Over.{children_of};
+ghost use Rattle.dict_io.specs.Outside.{HasCause, Rose};
+ghost use Rattle.dictd.specs.OneRun.{IsUnserved, OnceRun, ReadsServed, ServesIn, outer, shelf_told, status_for, status_of};
 ghost use Rattle.dictd.specs.Statuses.{Tells, status_text};
 
-use crate::definitions::are_served;
-use crate::dictionary::Dictionary;
-use crate::input::{InputEnd, read_input};
-use crate::load::load_each;
-use crate::reply::Buffers;
-use crate::session::serve_input;
 use crate::status::{Status, tell};
-use crate::words::once_file;
+use crate::words::once_words;
 use child_io::{Spawner, folder_of};
-use ddl_text::{DdlFault, DdlRefusal, parse_definitions};
-use dict_io::{Clock, Failed, Shelf, ShelfFault, Sink, Source};
-use dict_schema::Item;
-use dict_value::{ListOf, NoMemory};
+use dict_hub::{Items, are_loaded, local_desk, plain_dictionaries, read_items};
+use dict_io::{Clock, Link, OpenGate, Shelf, Sink};
+use dict_session::{ConfigEnd, Desk, SessionEnd, serve_session};
+use loader::Folder;
 use std::alloc::Global;
+use std::marker::Brand;
 
-/// The greatest number of bytes of a definitions file.
-pub const MOST_DEFINITIONS: u32 = 4_194_304;
+/// What a run meets beside its link.
+#[derive(Drop)]
+pub struct Outside<F: Shelf, S: Spawner, K: Clock> {
+    pub shelf: F,
+    pub spawner: S,
+    pub clock: K,
+}
 
-/// The room that the first reply needs no memory for.
-const REPLY_ROOM: usize = 256;
+/// How a run ended, and what it met, as it left that.
+#[derive(Drop)]
+pub struct Ended<F: Shelf, S: Spawner, K: Clock> {
+    pub status: Status,
+    pub outside: Outside<F, S, K>,
+}
 
-/// The items of a text, each of which is served, or the status that it ends the run with.
-fn read_items(alloc: Global, text: &[u8]) -> Result<ListOf<Item>, Status>
-    requires { length text.now ≤ 4194304 }
-    ensures items { ReadsItems text.now result }
-    ensures sound { IfOk result (All IsSoundItem) }
+/// How a file without items is told.
+fn status_for(why: ConfigEnd) -> Status
+    ensures { result ≡ status_for why }
 {
-    match parse_definitions(alloc, text) {
+    match why {
+        ConfigEnd::Unread => Status::DefsUnread,
+        ConfigEnd::TooLong => Status::DefsTooLong,
+        ConfigEnd::Refused { line, place, words } => Status::DefsRefused { line, place, words },
+        _ => Status::NoMemory,
+    }
+}
+
+/// How the end of a session is told.
+fn status_of(end: SessionEnd) -> Status
+    ensures { result ≡ status_of end }
+{
+    match end {
+        SessionEnd::Quit | SessionEnd::Ended => Status::Done,
+        SessionEnd::ReadFault => Status::ReadFault,
+        SessionEnd::WriteFault => Status::WriteFault,
+        SessionEnd::LineTooLong => Status::LineTooLong,
+        SessionEnd::Spent => Status::Spent,
+        SessionEnd::NoMemory => Status::NoMemory,
+    }
+}
+
+/// How an item that isn't served yet is told: of the file's first byte.
+fn unserved() -> Status
+    ensures { IsUnserved result }
+{
+    Status::DefsRefused {
+        line: 1,
+        place: 0,
+        words: b"unsupported",
+    }
+}
+
+/// The items of the definitions file, each of which is served, or how the file is told.
+fn served_items<F: Shelf>(alloc: Global, shelf: &mut F, name: &str) -> Result<Items, Status>
+    ensures read { ReadsServed (shelf_told F.filed F.file F.later) (F.readings shelf.old) name.now result }
+    ensures cause { IsErrOf result Status.DefsUnread → Rose (F.shelf_faults shelf.old) (F.shelf_faults shelf.new) }
+    ensures later { F.readings shelf.new ≡ F.later (F.readings shelf.old) }
+{
+    match read_items(alloc, shelf, name) {
         Ok(items) => {
-            if are_served(items.as_slice()) {
-                return Ok(items);
+            if !are_loaded(items.as_slice()) {
+                return Err(unserved());
             }
-            // What isn't served yet is told of the file's first byte.
-            let fault = DdlFault::Unsupported(0);
-            Err(Status::DefsRefused { line: 1, fault })
+            // Items are told by numbers of 32 bits.
+            if items.len() >= u32::MAX as usize {
+                return Err(Status::NoMemory);
+            }
+            Ok(Items::new(items))
         }
-        Err(DdlRefusal::Refused { line, fault }) => Err(Status::DefsRefused { line, fault }),
-        Err(DdlRefusal::NoMemory) => Err(Status::NoMemory),
+        Err(why) => Err(status_for(why)),
     }
 }
 
-/// The items of a file, or the status that it ends the run with.
-fn read_definitions<F: Shelf>(
+/// Serves the dictionaries of a file, whose programs lie in the folder that P names: loads each once, in the order of
+/// the file, and answers the requests of the link.
+fn serve_in<P: Folder, F: Shelf, S: Spawner, K: Clock, L: Link>(
     alloc: Global,
-    shelf: &mut F,
+    items: Items,
     name: &str,
-) -> Result<ListOf<Item>, Status>
-    ensures read { ReadsDefinitions (F.file (F.readings shelf.old) name.now) result }
-    ensures sound { IfOk result (All IsSoundItem) }
-    ensures cause { HasCause (F.shelf_faults shelf.old) (F.shelf_faults shelf.new) (IsErrOf result Status.DefsUnread) }
-{
-    match shelf.read_file(name, MOST_DEFINITIONS) {
-        Ok(text) => {
-            // A shelf that tells nothing of its files doesn't promise it.
-            if text.len() > MOST_DEFINITIONS as usize {
-                return Err(Status::DefsTooLong);
-            }
-            read_items(alloc, text.as_slice())
-        }
-        Err(ShelfFault::Failed) => Err(Status::DefsUnread),
-        Err(ShelfFault::TooLong) => Err(Status::DefsTooLong),
-        Err(ShelfFault::NoMemory) => Err(Status::NoMemory),
-    }
-}
-
-/// Appends the dictionary of an item, where it is one, before its first load.
-fn add_item(
-    alloc: Global,
-    dictionaries: &mut ListOf<Dictionary>,
-    item: Item,
     folder: &[u8],
-) -> Result<(), NoMemory>
-    requires { IsSoundItem item }
-    ensures { OnOk result (map holding dictionaries.new ≡ map holding dictionaries.old ++ opening folder.now (item ∷ [])) }
+    seed: u64,
+    outside: Outside<F, S, K>,
+    link: &mut L,
+) -> Ended<F, S, K>
+    requires folder { folder.now ≡ P.folder }
+    requires open { (L.ends link.old).reads.ended ≡ false }
+    ensures { ServesIn (shelf_told F.filed F.file F.later) S.ran items name.now folder.now seed
+        (outer (F.readings outside.shelf) (K.moments outside.clock) (children_of S.scripts S.starts outside.spawner))
+        (L.ends link.old) result.status
+        (outer (F.readings result.outside.shelf) (K.moments result.outside.clock) (children_of S.scripts S.starts result.outside.spawner))
+        (L.ends link.new) }
 {
-    let made = Dictionary::new(alloc, item, folder)?;
-    match made {
-        Some(dictionary) => dictionaries.push(dictionary),
-        None => Ok(()),
-    }
-}
-
-/// The dictionaries of these items, none of which was loaded yet.
-fn dictionaries_of(
-    alloc: Global,
-    items: ListOf<Item>,
-    folder: &[u8],
-) -> Result<Vec<Dictionary>, NoMemory>
-    requires { All IsSoundItem items }
-    ensures { IfOk result (λ all. map holding all.items ≡ opening folder.now items) }
-{
-    let mut dictionaries = ListOf::new(alloc);
-    let mut items = items;
-    while let Some(item) = items.pop_front() {
-        add_item(alloc, &mut dictionaries, item, folder)?;
-    }
-    Ok(dictionaries.into_vec())
-}
-
-/// Loads each dictionary once, reads the input, and answers it.
-fn serve<S: Spawner, I: Source, O: Sink>(
-    alloc: Global,
-    dictionaries: &mut [Dictionary],
-    spawner: &mut S,
-    input: &mut I,
-    out: &mut O,
-    buffers: &mut Buffers,
-) -> Status
-    requires { I.ended input.old ≡ false }
-    ensures reads { RoseWhere (I.read_faults input.old) (I.read_faults input.new) (result ≡ Status.ReadFault) }
-    ensures reads_well { result ≢ Status.ReadFault → result ≢ Status.WriteFault → I.read_faults input.new ≡ I.read_faults input.old }
-    ensures writes { HasCause (O.write_faults out.old) (O.write_faults out.new) (result ≡ Status.WriteFault) }
-    ensures run { ServesRun S.ran (map holding dictionaries.old) (record { scripts = S.scripts spawner.old; left = I.left input.old; written = O.written out.old }) (record { scripts = S.scripts spawner.new; left = I.left input.new; written = O.written out.new }) result }
-{
-    load_each(alloc, dictionaries, spawner);
-    let Ok(asked) = read_input(alloc, input) else {
-        return Status::NoMemory;
+    let Outside {
+        shelf,
+        spawner,
+        clock,
+    } = outside;
+    let Ok(dictionaries) = plain_dictionaries::<S, P>(alloc, &items, folder, seed) else {
+        return Ended {
+            status: Status::NoMemory,
+            outside: Outside {
+                shelf,
+                spawner,
+                clock,
+            },
+        };
     };
-    let served = serve_input(alloc, dictionaries, spawner, out, &asked, buffers);
-    status_of(served, asked.end)
+    let mut desk = local_desk(items, dictionaries, spawner, clock, shelf, name);
+    let now = desk.moment();
+    desk.first(alloc, now);
+    let end = serve_session(alloc, &mut desk, link, &OpenGate, 0);
+    desk.origins();
+    let (spawner, clock, file) = desk.into_parts();
+    Ended {
+        status: status_of(end),
+        outside: Outside {
+            shelf: file.into_shelf(),
+            spawner,
+            clock,
+        },
+    }
 }
 
-/// The status of an input that ended so and was served so.
-fn status_of(served: Result<(), Failed>, end: InputEnd) -> Status
-    ensures { result ≡ status_after served end }
+/// The same with the folder that the definitions file lies in.
+fn serve_items<F: Shelf, S: Spawner, K: Clock, L: Link>(
+    alloc: Global,
+    items: Items,
+    name: &str,
+    seed: u64,
+    outside: Outside<F, S, K>,
+    link: &mut L,
+) -> Ended<F, S, K>
+    requires { (L.ends link.old).reads.ended ≡ false }
+    ensures { (folder : List ℕ) × IsFolder name.now folder
+        × ServesIn (shelf_told F.filed F.file F.later) S.ran items name.now folder seed
+        (outer (F.readings outside.shelf) (K.moments outside.clock) (children_of S.scripts S.starts outside.spawner))
+        (L.ends link.old) result.status
+        (outer (F.readings result.outside.shelf) (K.moments result.outside.clock) (children_of S.scripts S.starts result.outside.spawner))
+        (L.ends link.new) }
 {
-    match (served, end) {
-        (Ok(()), InputEnd::Ended) => Status::Done,
-        (Ok(()), InputEnd::Failed) => Status::ReadFault,
-        (Ok(()), InputEnd::TooLong) => Status::LineTooLong,
-        (Err(_), _) => Status::WriteFault,
-    }
+    let folder = folder_of(name.as_bytes());
+    serve_in::<Brand, F, S, K, L>(alloc, items, name, folder, seed, outside, link)
 }
 
 /// Runs the words, and writes nothing to the error output.
-fn run<F: Shelf, S: Spawner, C: Clock, I: Source, O: Sink>(
+fn run<F: Shelf, S: Spawner, K: Clock, L: Link>(
     alloc: Global,
     words: &[String],
-    shelf: &mut F,
-    spawner: &mut S,
-    clock: &mut C,
-    input: &mut I,
-    out: &mut O,
-) -> Status
-    requires { I.ended input.old ≡ false }
-    ensures shelf { HasCause (F.shelf_faults shelf.old) (F.shelf_faults shelf.new) (result ≡ Status.DefsUnread) }
-    ensures reads { RoseWhere (I.read_faults input.old) (I.read_faults input.new) (result ≡ Status.ReadFault) }
-    ensures reads_well { result ≢ Status.ReadFault → result ≢ Status.WriteFault → I.read_faults input.new ≡ I.read_faults input.old }
-    ensures writes { HasCause (O.write_faults out.old) (O.write_faults out.new) (result ≡ Status.WriteFault) }
-    ensures run { OnceRun (map string_bytes words.now) (F.file (F.readings shelf.old)) S.ran (record { scripts = S.scripts spawner.old; left = I.left input.old; written = O.written out.old }) (record { scripts = S.scripts spawner.new; left = I.left input.new; written = O.written out.new }) result }
+    outside: Outside<F, S, K>,
+    link: &mut L,
+) -> Ended<F, S, K>
+    requires { (L.ends link.old).reads.ended ≡ false }
+    ensures run { OnceRun (shelf_told F.filed F.file F.later) S.ran (map string_bytes words.now)
+        (outer (F.readings outside.shelf) (K.moments outside.clock) (children_of S.scripts S.starts outside.spawner))
+        (L.ends link.old) result.status
+        (outer (F.readings result.outside.shelf) (K.moments result.outside.clock) (children_of S.scripts S.starts result.outside.spawner))
+        (L.ends link.new) }
+    ensures shelf { result.status ≡ Status.DefsUnread
+        → Rose (F.shelf_faults outside.shelf) (F.shelf_faults result.outside.shelf) }
 {
-    let Some(name) = once_file(words) else {
-        return Status::Usage;
+    let mut outside = outside;
+    let Some((name, seed)) = once_words(words) else {
+        return Ended {
+            status: Status::Usage,
+            outside,
+        };
     };
-    let items = match read_definitions(alloc, shelf, name) {
-        Ok(items) => items,
-        Err(status) => return status,
-    };
-    let Ok(mut buffers) = Buffers::with_room(alloc, REPLY_ROOM) else {
-        return Status::NoMemory;
-    };
-    let folder = folder_of(name.as_bytes());
-    let Ok(mut dictionaries) = dictionaries_of(alloc, items, folder) else {
-        return Status::NoMemory;
-    };
-    clock.now();
-    serve(
-        alloc,
-        dictionaries.as_mut_slice(),
-        spawner,
-        input,
-        out,
-        &mut buffers,
-    )
+    match served_items(alloc, &mut outside.shelf, name) {
+        Ok(items) => serve_items(alloc, items, name, seed, outside, link),
+        Err(status) => Ended { status, outside },
+    }
 }
 
 /// Runs `once DEFS SEED`: reads the definitions file, loads each dictionary once, in the order of the file, and answers
-/// the lines of the input. A status other than Done is told on the error output; a write there that fails is passed
-/// over.
-pub fn once<F: Shelf, S: Spawner, C: Clock, I: Source, O: Sink, E: Sink>(
+/// the requests of the link, one session. A status other than Done is told on the error output; a write there that
+/// fails is passed over.
+pub fn once<F: Shelf, S: Spawner, K: Clock, L: Link, E: Sink>(
     alloc: Global,
     words: &[String],
-    shelf: &mut F,
-    spawner: &mut S,
-    clock: &mut C,
-    input: &mut I,
-    out: &mut O,
+    outside: Outside<F, S, K>,
+    link: &mut L,
     err: &mut E,
-) -> Status
-    requires { I.ended input.old ≡ false }
-    ensures shelf { HasCause (F.shelf_faults shelf.old) (F.shelf_faults shelf.new) (result ≡ Status.DefsUnread) }
-    ensures reads { RoseWhere (I.read_faults input.old) (I.read_faults input.new) (result ≡ Status.ReadFault) }
-    ensures reads_well { result ≢ Status.ReadFault → result ≢ Status.WriteFault → I.read_faults input.new ≡ I.read_faults input.old }
-    ensures writes { HasCause (O.write_faults out.old) (O.write_faults out.new) (result ≡ Status.WriteFault) }
-    ensures run { OnceRun (map string_bytes words.now) (F.file (F.readings shelf.old)) S.ran (record { scripts = S.scripts spawner.old; left = I.left input.old; written = O.written out.old }) (record { scripts = S.scripts spawner.new; left = I.left input.new; written = O.written out.new }) result }
-    ensures told { Tells (E.written err.old) (E.written err.new) (status_text result) (Rose (E.write_faults err.old) (E.write_faults err.new)) }
+) -> Ended<F, S, K>
+    requires { (L.ends link.old).reads.ended ≡ false }
+    ensures run { OnceRun (shelf_told F.filed F.file F.later) S.ran (map string_bytes words.now)
+        (outer (F.readings outside.shelf) (K.moments outside.clock) (children_of S.scripts S.starts outside.spawner))
+        (L.ends link.old) result.status
+        (outer (F.readings result.outside.shelf) (K.moments result.outside.clock) (children_of S.scripts S.starts result.outside.spawner))
+        (L.ends link.new) }
+    ensures shelf { result.status ≡ Status.DefsUnread
+        → Rose (F.shelf_faults outside.shelf) (F.shelf_faults result.outside.shelf) }
+    ensures reads { HasCause (L.ends link.old).reads.faults (L.ends link.new).reads.faults (result.status ≡ Status.ReadFault) }
+    ensures writes { HasCause (L.ends link.old).writes.faults (L.ends link.new).writes.faults (result.status ≡ Status.WriteFault) }
+    ensures told { Tells (E.written err.old) (E.written err.new) (status_text result.status)
+        (Rose (E.write_faults err.old) (E.write_faults err.new)) }
 {
-    let status = run(alloc, words, shelf, spawner, clock, input, out);
-    tell(err, status);
-    status
+    let ended = run(alloc, words, outside, link);
+    tell(err, ended.status);
+    ended
 }

@@ -1,10 +1,8 @@
 // How a run of the program ends: its status, the number that tells it to the caller, and its text.
 ghost use Rattle.std.specs.Prelude.{◌≡◌, ◌++◌, ◌∷◌, [], IsErr, codes, decimal};
 ghost use Rattle.dict_io.specs.Outside.{HasCause, Rose, WritesPrefix};
-ghost use Rattle.ddl_text.specs.Faults.{place_of_fault, words_of};
 ghost use Rattle.dictd.specs.Statuses.{Tells, fault_text, status_text};
 
-use ddl_text::{DdlFault, fault_words, place_of};
 use dict_io::{Failed, Sink, write_all};
 use itoa::Buffer;
 
@@ -14,11 +12,17 @@ pub enum Status {
     Done,
     Usage,
     DefsUnread,
-    /// The definitions file has this fault in this line, from 1; the fault has its byte, from 0.
-    DefsRefused { line: u32, fault: DdlFault },
+    /// The definitions file has no reading: the line of its fault, from 1, the byte, from 0, and words.
+    DefsRefused {
+        line: u32,
+        place: u32,
+        words: &'static [u8],
+    },
     ReadFault,
     WriteFault,
     LineTooLong,
+    /// As many requests were answered as a session may have.
+    Spent,
     DefsTooLong,
     NoMemory,
 }
@@ -39,6 +43,7 @@ impl Status {
             Status::ReadFault => 5,
             Status::WriteFault => 6,
             Status::LineTooLong => 7,
+            Status::Spent => 8,
             Status::DefsTooLong => 9,
             Status::NoMemory => 12,
         }
@@ -65,35 +70,36 @@ fn write_number<E: Sink>(err: &mut E, piece: &[u8], number: u32) -> Result<(), F
     write_both(err, piece, digits.format(number).as_bytes())
 }
 
-/// Writes the words of a fault and the end of their line.
-fn write_words<E: Sink>(err: &mut E, fault: &DdlFault) -> Result<(), Failed>
-    ensures bytes { WritesPrefix (E.written err.old) (E.written err.new) (codes ": " ++ (words_of fault.now ++ 10 ∷ [])) result }
+/// Writes words and the end of their line.
+fn write_words<E: Sink>(err: &mut E, words: &[u8]) -> Result<(), Failed>
+    ensures bytes { WritesPrefix (E.written err.old) (E.written err.new) (codes ": " ++ (words.now ++ 10 ∷ [])) result }
     ensures cause { HasCause (E.write_faults err.old) (E.write_faults err.new) (IsErr result) }
 {
     match write_all(err, b": ") {
-        Ok(()) => write_both(err, fault_words(fault), b"\n"),
+        Ok(()) => write_both(err, words, b"\n"),
         Err(fault) => Err(fault),
     }
 }
 
-/// Writes the byte and the words of a fault.
-fn write_place<E: Sink>(err: &mut E, fault: &DdlFault) -> Result<(), Failed>
-    ensures bytes { WritesPrefix (E.written err.old) (E.written err.new) ((codes " byte " ++ decimal (place_of_fault fault.now)) ++ (codes ": " ++ (words_of fault.now ++ 10 ∷ []))) result }
+/// Writes a byte of a file and words.
+fn write_place<E: Sink>(err: &mut E, place: u32, words: &[u8]) -> Result<(), Failed>
+    ensures bytes { WritesPrefix (E.written err.old) (E.written err.new)
+        ((codes " byte " ++ decimal place) ++ (codes ": " ++ (words.now ++ 10 ∷ []))) result }
     ensures cause { HasCause (E.write_faults err.old) (E.write_faults err.new) (IsErr result) }
 {
-    match write_number(err, b" byte ", place_of(fault)) {
-        Ok(()) => write_words(err, fault),
+    match write_number(err, b" byte ", place) {
+        Ok(()) => write_words(err, words),
         Err(fault) => Err(fault),
     }
 }
 
-/// Writes a fault of a definitions file, which takes no memory.
-fn write_fault<E: Sink>(err: &mut E, line: u32, fault: &DdlFault) -> Result<(), Failed>
-    ensures bytes { WritesPrefix (E.written err.old) (E.written err.new) (fault_text line fault.now) result }
+/// Writes why a definitions file has no reading, which takes no memory.
+fn write_fault<E: Sink>(err: &mut E, line: u32, place: u32, words: &[u8]) -> Result<(), Failed>
+    ensures bytes { WritesPrefix (E.written err.old) (E.written err.new) (fault_text line place words.now) result }
     ensures cause { HasCause (E.write_faults err.old) (E.write_faults err.new) (IsErr result) }
 {
     match write_number(err, b"definitions line ", line) {
-        Ok(()) => write_place(err, fault),
+        Ok(()) => write_place(err, place, words),
         Err(fault) => Err(fault),
     }
 }
@@ -110,10 +116,11 @@ fn write_status<E: Sink>(err: &mut E, status: Status) -> Result<(), Failed>
             b"usage: dictd once DEFS SEED | dictd serve DEFS ADDR WORKERS SEED | dictd demo N SEED\n",
         ),
         Status::DefsUnread => write_all(err, b"cannot read definitions\n"),
-        Status::DefsRefused { line, fault } => write_fault(err, line, &fault),
+        Status::DefsRefused { line, place, words } => write_fault(err, line, place, words),
         Status::ReadFault => write_all(err, b"read failed\n"),
         Status::WriteFault => write_all(err, b"write failed\n"),
         Status::LineTooLong => write_all(err, b"line too long\n"),
+        Status::Spent => write_all(err, b"too many requests\n"),
         Status::DefsTooLong => write_all(err, b"definitions too long\n"),
         Status::NoMemory => write_all(err, b"no memory\n"),
     }
@@ -121,7 +128,8 @@ fn write_status<E: Sink>(err: &mut E, status: Status) -> Result<(), Failed>
 
 /// Tells a status on the error output; a write there that fails is passed over.
 pub fn tell<E: Sink>(err: &mut E, status: Status)
-    ensures { Tells (E.written err.old) (E.written err.new) (status_text status) (Rose (E.write_faults err.old) (E.write_faults err.new)) }
+    ensures { Tells (E.written err.old) (E.written err.new) (status_text status)
+        (Rose (E.write_faults err.old) (E.write_faults err.new)) }
 {
     let _ = write_status(err, status);
 }

@@ -4,18 +4,19 @@ ghost use Rattle.dictd.specs.CommandLine.{IsOnce};
 
 use dict_value::read_digits;
 
-/// The name of the definitions file, where the words are `once DEFS SEED`.
-pub fn once_file(words: &[String]) -> Option<&str>
-    ensures { MatchOption result ((file : List ℕ) → IsOnce (map string_bytes words.now) file → ⊥) (λ file. IsOnce (map string_bytes words.now) file.now) }
+/// The name of the definitions file and the seed, where the words are `once DEFS SEED`.
+pub fn once_words(words: &[String]) -> Option<(&str, u64)>
+    ensures { MatchOption result ((name : List ℕ) (seed : ℕ) → IsOnce (map string_bytes words.now) name seed → ⊥)
+        (λ called. IsOnce (map string_bytes words.now) called.0.now called.1) }
 {
-    let [verb, file, seed] = words else {
+    let [verb, name, seed] = words else {
         return None;
     };
     if verb.as_str() != "once" {
         return None;
     }
     match read_digits(seed.as_bytes()) {
-        Some(_) => Some(file.as_str()),
+        Some(number) => Some((name.as_str(), number)),
         None => None,
     }
 }

@@ -1,6 +1,6 @@
 use Rattle.dict_io.specs.Outside.{Rose}
 use Rattle.dictd.specs.Statuses.{status_text}
-use Rattle.dictd.proofs.Runs.{tells}
+use Rattle.dictd.proofs.Telling.{tells}
 use Rattle.dictd.proofs.status.tell.Goals as goal
 
 pub returns : goal.returns
