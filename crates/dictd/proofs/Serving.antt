@@ -1,7 +1,9 @@
 -- A run of `once` by its end: the faults that it tells.
-use Rattle.std.proofs.Common.{◌≡◌, ◌≤◌, ◌<◌, ◌∙◌, ◌⊎◌, ℕ, List, Option, Result, Ok, Err, arith, refl, sym, ap, subst, inl, inr}
+use Rattle.std.proofs.Common.{◌≡◌, ◌≤◌, ◌<◌, ◌∙◌, ◌⊎◌, ℕ, List, Option, Result, Ok, Err, length, true, arith, refl, sym, ap, subst, inl, inr}
 use Rattle.child_io.specs.Words.{IsFolder}
-use Rattle.dict_hub.specs.Over.{AllLoaded}
+use Rattle.dict_hub.specs.Over.{AllLoaded, Children, LoadUpTo, Ticked, over_state}
+use Rattle.dict_hub.specs.Plain.{PlainState, opened}
+use Rattle.dict_hub.specs.Readings.{file_state}
 use Rattle.dict_io.specs.Links.{Ends}
 use Rattle.dict_io.specs.Outside.{HasCause}
 use Rattle.dict_schema.specs.declared.definition.Item.{Item}
@@ -10,14 +12,16 @@ use Rattle.dict_session.specs.declared.desk.ConfigEnd.TheVariants as config
 use Rattle.dict_session.specs.declared.session.SessionEnd.{SessionEnd}
 use Rattle.dict_session.specs.declared.session.SessionEnd.TheVariants as end
 use Rattle.dictd.specs.CommandLine.{IsOnce}
-use Rattle.dictd.specs.OneRun.{IsUnserved, OnceRun, Outer, ReadsServed, Runs, ServesIn, ShelfTold, once_read, opening, status_for, status_of}
+use Rattle.dict_session.specs.Session.{Serves}
+use Rattle.dictd.specs.OneRun.{AllOrigins, IsUnserved, Local, OnceRun, Outer, ReadsServed, Runs, ServesIn, ShelfTold, local_facts, local_moves}
+use Rattle.dictd.specs.OneRun.{once_read, opening, outer, outer_of, status_for, status_of}
 use Rattle.dictd.specs.declared.status.Status.{Status}
 use Rattle.dictd.specs.declared.status.Status.TheVariants as status
 use Rattle.loader.specs.Origins.{Ran}
 
 -- ---- statuses that tell no fault of the link
 
-NoFault : Status → Type 0
+abbrev NoFault : Status → Type 0
 NoFault told = (told ≡ status.ReadFault → ⊥) × (told ≡ status.WriteFault → ⊥)
 
 usage_none : (told : Status) → told ≡ status.Usage → NoFault told
@@ -83,9 +87,9 @@ as_told a b P Q cause back on =
     record { later = cause.later; rose = λ h. cause.rose (back h); still = λ n. cause.still (λ h. n (on h)) }
 
 -- the faults of both sides of the link, as the status tells them
-record Told (old new : Ends) (told : Status) : Type 0 where
-  reads : HasCause old.reads.faults new.reads.faults (told ≡ status.ReadFault)
-  writes : HasCause old.writes.faults new.writes.faults (told ≡ status.WriteFault)
+pub record Told (old new : Ends) (told : Status) : Type 0 where
+  pub reads : HasCause old.reads.faults new.reads.faults (told ≡ status.ReadFault)
+  pub writes : HasCause old.writes.faults new.writes.faults (told ≡ status.WriteFault)
 
 told_none : (old new : Ends) (told : Status) → new ≡ old → NoFault told → Told old new told
 told_none old new told same none = record {
@@ -94,15 +98,15 @@ told_none old new told same none = record {
 }
 
 module _ {R : Type 0} (shelf : ShelfTold R) (ran : Ran) where
-  told_in : (items : List Item) (name folder : List ℕ) (seed : ℕ) (o : Outer R) (old : Ends) (told : Status) (o' : Outer R) (new : Ends)
-      → ServesIn shelf ran items name folder seed o old told o' new → Told old new told
-  told_in items name folder seed o old told o' new (ServesIn.refused is outside same) =
-      told_none old new told same (none_for told status.NoMemory is no_memory_none)
-  told_in items name folder seed o old told o' new (ServesIn.served ended last runs is outside) = record {
-    reads = as_told old.reads.faults new.reads.faults (ended ≡ end.ReadFault) (told ≡ status.ReadFault) runs.serves.faults.reads
-        (λ f. reads_of ended (sym is ∙ f)) (λ f. is ∙ ap status_of f);
-    writes = as_told old.writes.faults new.writes.faults (ended ≡ end.WriteFault) (told ≡ status.WriteFault) runs.serves.faults.writes
-        (λ f. writes_of ended (sym is ∙ f)) (λ f. is ∙ ap status_of f);
+  told_in : (items : List Item) (name folder : List ℕ) (seed : ℕ) (o : Outer R) (old : Ends) (ended : SessionEnd) (told : Status)
+      (o' : Outer R) (new : Ends) → ServesIn shelf ran items name folder seed o old ended o' new → told ≡ status_of ended → Told old new told
+  told_in items name folder seed o old finish told o' new (ServesIn.refused none outside same) is =
+      told_none old new told same (none_for told status.NoMemory (is ∙ ap status_of none) no_memory_none)
+  told_in items name folder seed o old finish told o' new (ServesIn.served last runs outside) is = record {
+    reads = as_told old.reads.faults new.reads.faults (finish ≡ end.ReadFault) (told ≡ status.ReadFault) runs.serves.faults.reads
+        (λ f. reads_of finish (sym is ∙ f)) (λ f. is ∙ ap status_of f);
+    writes = as_told old.writes.faults new.writes.faults (finish ≡ end.WriteFault) (told ≡ status.WriteFault) runs.serves.faults.writes
+        (λ f. writes_of finish (sym is ∙ f)) (λ f. is ∙ ap status_of f);
   }
 
   pub told_run : (words : List (List ℕ)) (o : Outer R) (old : Ends) (told : Status) (o' : Outer R) (new : Ends)
@@ -114,8 +118,8 @@ module _ {R : Type 0} (shelf : ShelfTold R) (ran : Ran) where
       told_none old new told same (unserved_none told is)
   told_run words o old told o' new (OnceRun.refused name seed called is outside same) =
       told_none old new told same (none_for told status.NoMemory is no_memory_none)
-  told_run words o old told o' new (OnceRun.served name seed items folder called read all in_folder serves) =
-      told_in items name folder seed (once_read shelf o) old told o' new serves
+  told_run words o old told o' new (OnceRun.served name seed items folder ended called read all in_folder serves is) =
+      told_in items name folder seed (once_read shelf o) old ended told o' new serves is
 
   -- ---- the file
 
@@ -128,3 +132,39 @@ module _ {R : Type 0} (shelf : ShelfTold R) (ran : Ran) where
       | inr none ↦ OnceRun.refused name seed called none outside refl
     ]
   ]
+
+  -- ---- the desk of the dictionaries
+
+  pub serves_in : (items : List Item) (name text folder at : List ℕ) (seed now count : ℕ) (o o' : Outer R) (made : List PlainState)
+      (start begun loaded last : Local R) (old new : Ends) (ended : SessionEnd)
+      → start ≡ over_state items (file_state o.readings text) o.moments o.children made true → text ≡ name → made ≡ opened folder seed 0 items
+      → Ticked start now begun → count ≡ length begun.items → LoadUpTo (local_moves shelf) now count begun loaded
+      → Serves (local_facts shelf) loaded old ended last new → AllOrigins ran at last → folder ≡ at → o' ≡ outer_of last
+      → ServesIn shelf ran items name folder seed o old ended o' new
+  serves_in items name text folder at seed now count o o' made start begun loaded last old new ended is named opens ticked many loads serves origins there outside =
+      let same : start ≡ opening items name folder seed o = is
+      ∙ ap (λ (t : List ℕ). over_state items (file_state o.readings t) o.moments o.children made true) named
+      ∙ ap (λ (m : List PlainState). over_state items (file_state o.readings name) o.moments o.children m true) opens in
+      let whole : count ≡ length items = many ∙ ap (λ (z : Local R). length z.items) ticked.rest ∙ ap (λ (z : Local R). length z.items) same in
+      ServesIn.served last record {
+        now = now;
+        begun = begun;
+        loaded = loaded;
+        ticked = subst (λ (z : Local R). Ticked z now begun) same ticked;
+        loads = subst (λ (n : ℕ). LoadUpTo (local_moves shelf) now n begun loaded) whole loads;
+        serves = serves;
+        origins = subst (λ (f : List ℕ). AllOrigins ran f last) (sym there) origins;
+      } outside
+
+  pub same_outer : (r r' : R) (m m' : Option (List ℕ)) (ch ch' : Children) → r ≡ r' → m ≡ m' → ch ≡ ch' → outer r m ch ≡ outer r' m' ch'
+  same_outer r r' m m' ch ch' a b d =
+      ap (λ (z : R). outer z m ch) a ∙ ap (λ (z : Option (List ℕ)). outer r' z ch) b ∙ ap (λ (z : Children). outer r' m' z) d
+
+  pub served_run : (words : List (List ℕ)) (name text : List ℕ) (seed : ℕ) (items : List Item) (o mid o' : Outer R) (old new : Ends)
+      (ended : SessionEnd) (told : Status) → IsOnce words name seed → text ≡ name → ReadsServed shelf o.readings text (Ok items)
+      → mid ≡ once_read shelf o → (folder : List ℕ) × IsFolder name folder × ServesIn shelf ran items name folder seed mid old ended o' new
+      → told ≡ status_of ended → OnceRun shelf ran words o old told o' new
+  served_run words name text seed items o mid o' old new ended told called named read once serves is =
+      let here = subst (λ (t : List ℕ). ReadsServed shelf o.readings t (Ok items)) named read in
+      OnceRun.served name seed items serves.0 ended called here.0 here.1 serves.1
+      (subst (λ (z : Outer R). ServesIn shelf ran items name serves.0 seed z old ended o' new) once serves.2) is

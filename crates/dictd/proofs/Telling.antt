@@ -1,7 +1,7 @@
 -- Pieces written one after another.
 use Rattle.std.proofs.Common.{◌≡◌, ◌<◌, ◌≤◌, ◌+◌, ◌++◌, ℕ, List, Option, Result, Ok, Err, IsErr, length, take, ap, sym, ◌∙◌, subst, arith, append_assoc, inl, inr, refl}
-use Rattle.std.proofs.Math.Seq.{take-append-add}
-use Rattle.std.proofs.lemmas.List.{length-append, take-append-le, take-length}
+use Rattle.std.proofs.Math.Seq.{take-append-add, take-length}
+use Rattle.std.proofs.lemmas.List.{length-append, take-append-le}
 use Rattle.std.specs.Io.KnownBytes.{append_known}
 use Rattle.dict_io.specs.Outside.{WritesPrefix}
 use Rattle.dict_io.specs.declared.outside.Failed.{Failed}

@@ -117,11 +117,10 @@ ReadsServed shelf readings name (Err told) =
 
 -- the dictionaries of the items were served, or memory was refused before the first load
 pub data ServesIn {R : Type 0} (shelf : ShelfTold R) (ran : Ran) (items : List Item) (name folder : List ℕ) (seed : ℕ)
-    (o : Outer R) (old : Ends) (told : Status) (o' : Outer R) (new : Ends) : Type 0 where
-  refused : told ≡ status.NoMemory → o' ≡ o → new ≡ old → ServesIn shelf ran items name folder seed o old told o' new
-  served : (ended : SessionEnd) (last : Local R)
-      → Runs shelf ran folder (opening items name folder seed o) old ended last new → told ≡ status_of ended
-      → o' ≡ outer_of last → ServesIn shelf ran items name folder seed o old told o' new
+    (o : Outer R) (old : Ends) (ended : SessionEnd) (o' : Outer R) (new : Ends) : Type 0 where
+  refused : ended ≡ end.NoMemory → o' ≡ o → new ≡ old → ServesIn shelf ran items name folder seed o old ended o' new
+  served : (last : Local R) → Runs shelf ran folder (opening items name folder seed o) old ended last new
+      → o' ≡ outer_of last → ServesIn shelf ran items name folder seed o old ended o' new
 
 pub data OnceRun {R : Type 0} (shelf : ShelfTold R) (ran : Ran) (words : List (List ℕ)) (o : Outer R) (old : Ends)
     (told : Status) (o' : Outer R) (new : Ends) : Type 0 where
@@ -139,7 +138,7 @@ pub data OnceRun {R : Type 0} (shelf : ShelfTold R) (ran : Ran) (words : List (L
   refused : (name : List ℕ) (seed : ℕ) → IsOnce words name seed → told ≡ status.NoMemory → o' ≡ once_read shelf o
       → new ≡ old → OnceRun shelf ran words o old told o' new
   -- the dictionaries of the file are served
-  served : (name : List ℕ) (seed : ℕ) (items : List Item) (folder : List ℕ) → IsOnce words name seed
+  served : (name : List ℕ) (seed : ℕ) (items : List Item) (folder : List ℕ) (ended : SessionEnd) → IsOnce words name seed
       → ReadsFrom shelf o.readings name (Ok items) → AllLoaded items → IsFolder name folder
-      → ServesIn shelf ran items name folder seed (once_read shelf o) old told o' new
+      → ServesIn shelf ran items name folder seed (once_read shelf o) old ended o' new → told ≡ status_of ended
       → OnceRun shelf ran words o old told o' new

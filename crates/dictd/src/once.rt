@@ -31,6 +31,13 @@ pub struct Ended<F: Shelf, S: Spawner, K: Clock> {
     pub outside: Outside<F, S, K>,
 }
 
+/// How a session ended, and what it met, as it left that.
+#[derive(Drop)]
+struct Served<F: Shelf, S: Spawner, K: Clock> {
+    end: SessionEnd,
+    outside: Outside<F, S, K>,
+}
+
 /// How a file without items is told.
 fn status_for(why: ConfigEnd) -> Status
     ensures { result ≡ status_for why }
@@ -94,19 +101,19 @@ fn served_items<F: Shelf>(alloc: Global, shelf: &mut F, name: &str) -> Result<It
 fn serve_in<P: Folder, F: Shelf, S: Spawner, K: Clock, L: Link>(
     alloc: Global,
     items: Items,
-    name: &str,
+    name: &String,
     folder: &[u8],
     seed: u64,
     outside: Outside<F, S, K>,
     link: &mut L,
-) -> Ended<F, S, K>
+) -> Served<F, S, K>
     requires folder { folder.now ≡ P.folder }
     requires open { (L.ends link.old).reads.ended ≡ false }
-    ensures { ServesIn (shelf_told F.filed F.file F.later) S.ran items name.now folder.now seed
+    ensures { ServesIn (shelf_told F.filed F.file F.later) S.ran items (string_bytes name.now) folder.now seed
         (outer (F.readings outside.shelf) (K.moments outside.clock) (children_of S.scripts S.starts outside.spawner))
-        (L.ends link.old) result.status
-        (outer (F.readings result.outside.shelf) (K.moments result.outside.clock) (children_of S.scripts S.starts result.outside.spawner))
-        (L.ends link.new) }
+        (L.ends link.old) result.end
+        (outer (F.readings result.outside.shelf) (K.moments result.outside.clock)
+        (children_of S.scripts S.starts result.outside.spawner)) (L.ends link.new) }
 {
     let Outside {
         shelf,
@@ -114,8 +121,8 @@ fn serve_in<P: Folder, F: Shelf, S: Spawner, K: Clock, L: Link>(
         clock,
     } = outside;
     let Ok(dictionaries) = plain_dictionaries::<S, P>(alloc, &items, folder, seed) else {
-        return Ended {
-            status: Status::NoMemory,
+        return Served {
+            end: SessionEnd::NoMemory,
             outside: Outside {
                 shelf,
                 spawner,
@@ -123,14 +130,14 @@ fn serve_in<P: Folder, F: Shelf, S: Spawner, K: Clock, L: Link>(
             },
         };
     };
-    let mut desk = local_desk(items, dictionaries, spawner, clock, shelf, name);
+    let mut desk = local_desk(items, dictionaries, spawner, clock, shelf, name.as_str());
     let now = desk.moment();
     desk.first(alloc, now);
     let end = serve_session(alloc, &mut desk, link, &OpenGate, 0);
     desk.origins();
     let (spawner, clock, file) = desk.into_parts();
-    Ended {
-        status: status_of(end),
+    Served {
+        end,
         outside: Outside {
             shelf: file.into_shelf(),
             spawner,
@@ -143,18 +150,18 @@ fn serve_in<P: Folder, F: Shelf, S: Spawner, K: Clock, L: Link>(
 fn serve_items<F: Shelf, S: Spawner, K: Clock, L: Link>(
     alloc: Global,
     items: Items,
-    name: &str,
+    name: &String,
     seed: u64,
     outside: Outside<F, S, K>,
     link: &mut L,
-) -> Ended<F, S, K>
+) -> Served<F, S, K>
     requires { (L.ends link.old).reads.ended ≡ false }
-    ensures { (folder : List ℕ) × IsFolder name.now folder
-        × ServesIn (shelf_told F.filed F.file F.later) S.ran items name.now folder seed
+    ensures { (folder : List ℕ) × IsFolder (string_bytes name.now) folder
+        × ServesIn (shelf_told F.filed F.file F.later) S.ran items (string_bytes name.now) folder seed
         (outer (F.readings outside.shelf) (K.moments outside.clock) (children_of S.scripts S.starts outside.spawner))
-        (L.ends link.old) result.status
-        (outer (F.readings result.outside.shelf) (K.moments result.outside.clock) (children_of S.scripts S.starts result.outside.spawner))
-        (L.ends link.new) }
+        (L.ends link.old) result.end
+        (outer (F.readings result.outside.shelf) (K.moments result.outside.clock)
+        (children_of S.scripts S.starts result.outside.spawner)) (L.ends link.new) }
 {
     let folder = folder_of(name.as_bytes());
     serve_in::<Brand, F, S, K, L>(alloc, items, name, folder, seed, outside, link)
@@ -171,8 +178,8 @@ fn run<F: Shelf, S: Spawner, K: Clock, L: Link>(
     ensures run { OnceRun (shelf_told F.filed F.file F.later) S.ran (map string_bytes words.now)
         (outer (F.readings outside.shelf) (K.moments outside.clock) (children_of S.scripts S.starts outside.spawner))
         (L.ends link.old) result.status
-        (outer (F.readings result.outside.shelf) (K.moments result.outside.clock) (children_of S.scripts S.starts result.outside.spawner))
-        (L.ends link.new) }
+        (outer (F.readings result.outside.shelf) (K.moments result.outside.clock)
+        (children_of S.scripts S.starts result.outside.spawner)) (L.ends link.new) }
     ensures shelf { result.status ≡ Status.DefsUnread
         → Rose (F.shelf_faults outside.shelf) (F.shelf_faults result.outside.shelf) }
 {
@@ -183,8 +190,14 @@ fn run<F: Shelf, S: Spawner, K: Clock, L: Link>(
             outside,
         };
     };
-    match served_items(alloc, &mut outside.shelf, name) {
-        Ok(items) => serve_items(alloc, items, name, seed, outside, link),
+    match served_items(alloc, &mut outside.shelf, name.as_str()) {
+        Ok(items) => {
+            let Served { end, outside } = serve_items(alloc, items, name, seed, outside, link);
+            Ended {
+                status: status_of(end),
+                outside,
+            }
+        }
         Err(status) => Ended { status, outside },
     }
 }
@@ -203,12 +216,14 @@ pub fn once<F: Shelf, S: Spawner, K: Clock, L: Link, E: Sink>(
     ensures run { OnceRun (shelf_told F.filed F.file F.later) S.ran (map string_bytes words.now)
         (outer (F.readings outside.shelf) (K.moments outside.clock) (children_of S.scripts S.starts outside.spawner))
         (L.ends link.old) result.status
-        (outer (F.readings result.outside.shelf) (K.moments result.outside.clock) (children_of S.scripts S.starts result.outside.spawner))
-        (L.ends link.new) }
+        (outer (F.readings result.outside.shelf) (K.moments result.outside.clock)
+        (children_of S.scripts S.starts result.outside.spawner)) (L.ends link.new) }
     ensures shelf { result.status ≡ Status.DefsUnread
         → Rose (F.shelf_faults outside.shelf) (F.shelf_faults result.outside.shelf) }
-    ensures reads { HasCause (L.ends link.old).reads.faults (L.ends link.new).reads.faults (result.status ≡ Status.ReadFault) }
-    ensures writes { HasCause (L.ends link.old).writes.faults (L.ends link.new).writes.faults (result.status ≡ Status.WriteFault) }
+    ensures reads { HasCause (L.ends link.old).reads.faults (L.ends link.new).reads.faults
+        (result.status ≡ Status.ReadFault) }
+    ensures writes { HasCause (L.ends link.old).writes.faults (L.ends link.new).writes.faults
+        (result.status ≡ Status.WriteFault) }
     ensures told { Tells (E.written err.old) (E.written err.new) (status_text result.status)
         (Rose (E.write_faults err.old) (E.write_faults err.new)) }
 {

@@ -1,8 +1,10 @@
 // Runs of `once` over objects in memory.
+ghost use Rattle.std.specs.Prelude.{◌≡◌, IfOk, false};
+
 use crate::once::{Outside, once};
 use crate::status::Status;
 use child_io::{MemorySpawner, Script};
-use dict_io::{Both, MemoryClock, MemoryShelf, MemorySink, MemorySource, NamedFile};
+use dict_io::{Both, MemoryClock, MemoryShelf, MemorySink, MemorySource, NamedFile, Source};
 use dict_value::{Bytes, Exit, ListOf};
 use std::alloc::{AllocError, Global};
 use std::process::Abort;
@@ -99,12 +101,12 @@ fn strings(alloc: Global, texts: &[&'static str]) -> Result<Vec<String>, AllocEr
 
 /// A clock of these moments, or of one at 100.
 fn clock(alloc: Global, moments: &[u64]) -> Result<MemoryClock, AllocError> {
-    let list = if moments.is_empty() {
-        numbers(alloc, &[100])?
-    } else {
-        numbers(alloc, moments)?
-    };
-    Ok(MemoryClock::new(list))
+    if moments.is_empty() {
+        let moment = Vec::from_array(alloc, [100u64])?;
+        return Ok(MemoryClock::new(ListOf::from_vec(moment)));
+    }
+    let moments = Vec::from_slice(alloc, moments)?;
+    Ok(MemoryClock::new(ListOf::from_vec(moments)))
 }
 
 /// What a run met and wrote.
@@ -122,7 +124,9 @@ fn run_told(
     input: MemorySource,
     room: u32,
     err_room: u32,
-) -> Result<Told, Fail> {
+) -> Result<Told, Fail>
+    requires { ⟦<MemorySource as Source>⟧.ended input ≡ false }
+{
     let words = strings(alloc, words)?;
     let mut link = Both::new(input, MemorySink::new(alloc, room, ListOf::new(alloc))?);
     let mut err = MemorySink::new(alloc, err_room, ListOf::new(alloc))?;
@@ -135,7 +139,9 @@ fn run_told(
 }
 
 /// A source of these bytes, which come in pieces of 20.
-fn source(alloc: Global, bytes: &[u8], failing: &[u64]) -> Result<MemorySource, Fail> {
+fn source(alloc: Global, bytes: &[u8], failing: &[u64]) -> Result<MemorySource, Fail>
+    ensures { IfOk result (λ source. ⟦<MemorySource as Source>⟧.ended source ≡ false) }
+{
     let sizes = ListOf::from_vec(Vec::from_array(alloc, [20u32])?);
     Ok(MemorySource::new(
         Bytes::copy_of(alloc, bytes)?,

@@ -5,9 +5,9 @@ ghost use Rattle.dictd.specs.CommandLine.{IsOnce};
 use dict_value::read_digits;
 
 /// The name of the definitions file and the seed, where the words are `once DEFS SEED`.
-pub fn once_words(words: &[String]) -> Option<(&str, u64)>
+pub fn once_words(words: &[String]) -> Option<(&String, u64)>
     ensures { MatchOption result ((name : List ℕ) (seed : ℕ) → IsOnce (map string_bytes words.now) name seed → ⊥)
-        (λ called. IsOnce (map string_bytes words.now) called.0.now called.1) }
+        (λ called. IsOnce (map string_bytes words.now) (string_bytes called.0.now) called.1) }
 {
     let [verb, name, seed] = words else {
         return None;
@@ -16,7 +16,7 @@ pub fn once_words(words: &[String]) -> Option<(&str, u64)>
         return None;
     }
     match read_digits(seed.as_bytes()) {
-        Some(number) => Some((name.as_str(), number)),
+        Some(number) => Some((name, number)),
         None => None,
     }
 }

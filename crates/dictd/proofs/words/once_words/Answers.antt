@@ -5,4 +5,4 @@ use Rattle.dictd.proofs.words.once_words.Goals as goal
 pub returns-in-Some : goal.returns-in-Some
 returns-in-Some c =
     let list = three c.args.words.now c.verb-item.result c.name-item.result c.seed-item.result (omega (arith, c.in-len3.len_at_least)) (omega (arith, c.in-len3.len_below)) c.verb-item.is c.name-item.is c.seed-item.is in
-    once-words string_bytes c.args.words.now c.verb-item.result c.name-item.result c.seed-item.result c.as_str.result.now c.as_str-in-Some.result.now c.as_bytes.result.now list c.as_str.ensures.value c.as_str-in-Some.ensures.value c.as_bytes.ensures.value (is-once c.as_str.result.now _ refl c.if-ne.ensures) c.in-Some.number c.in-Some.ensures
+    once-words string_bytes c.args.words.now c.verb-item.result c.name-item.result c.seed-item.result c.as_str.result.now _ c.as_bytes.result.now c.in-Some.number list c.as_str.ensures.value refl c.as_bytes.ensures.value (is-once c.as_str.result.now _ refl c.if-ne.ensures) c.in-Some.ensures
