@@ -184,7 +184,7 @@ const FLAT: &[u8] =
 
 const FIRST: &[Child] = &[(b"1\ta\n2\tb\n", Ends::With(0))];
 
-static VALUES: [Session; 7] = [
+static VALUES: [Session; 8] = [
     Session {
         file: FLAT,
         children: FIRST,
@@ -251,6 +251,18 @@ static VALUES: [Session; 7] = [
         moments: &[],
         input: b"dictGet\td\tx\t7\ndictGet\td\tx\t499999\n",
         out: b"OK\tv1\tfirst\nOK\tv1\ta\n",
+    },
+    // A column before the key, and other types.
+    Session {
+        file: b"CREATE DICTIONARY d (a UInt8 DEFAULT 3, id UInt64, u UUID, i Int16, v IPv4) PRIMARY KEY id \
+            SOURCE(EXECUTABLE(command 'c' format 'TSV')) LAYOUT(FLAT())",
+        children: &[(
+            b"1\t7\t550E8400-E29B-41D4-A716-446655440000\t-5\t1.2.3.4\n",
+            Ends::With(0),
+        )],
+        moments: &[],
+        input: b"dictGet\td\ta\t1\ndictGet\td\tu\t1\ndictGet\td\ti\t1\ndictGet\td\tv\t1\ndictGet\td\ta\t2\n",
+        out: b"OK\tv1\t7\nOK\tv1\t550e8400-e29b-41d4-a716-446655440000\nOK\tv1\t-5\nOK\tv1\t1.2.3.4\nOK\tv1\t3\n",
     },
 ];
 
@@ -408,7 +420,7 @@ static LOADS: [Session; 8] = [
     },
 ];
 
-static REQUESTS: [Session; 5] = [
+static REQUESTS: [Session; 6] = [
     // Refusals in their order.
     Session {
         file: FLAT,
@@ -460,6 +472,20 @@ static REQUESTS: [Session; 5] = [
             execute_direct 1 implicit_key 0 send_chunk_header 0 command_read_timeout 10000 command_write_timeout 10000 \
             command_termination_timeout 10)) LAYOUT(FLAT(INITIAL_ARRAY_SIZE 1024 MAX_ARRAY_SIZE 5)) LIFETIME(MIN 0 MAX 0) \
             SETTINGS(max_output_bytes = 8) COMMENT \\'it\\\\\\'s\\'\nOK\tconfig\t0\t0\n",
+    },
+    // The first load of one fails, and the other answers.
+    Session {
+        file: b"CREATE DICTIONARY d (id UInt64, x String) PRIMARY KEY id SOURCE(EXECUTABLE(command 'c' format TSV)) \
+            LAYOUT(FLAT());\nCREATE DICTIONARY e (id UInt64, y UInt8) PRIMARY KEY id SOURCE(EXECUTABLE(command 'p' \
+            format CSV)) LAYOUT(FLAT())",
+        children: &[
+            (b"1\ta\n", Ends::With(1)),
+            (b"1,2\n", Ends::With(0)),
+            (b"1\tb\n", Ends::With(0)),
+        ],
+        moments: &[],
+        input: b"dictGet\td\tx\t1\ndictGet\te\ty\t1\nreload\td\ndictGet\td\tx\t1\n",
+        out: b"ERR\t5\nOK\tv1\t2\nOK\tv1\nOK\tv1\tb\n",
     },
 ];
 
