@@ -26,7 +26,8 @@ pub trait Fetch {
     ghost gave: { Definition → List Value → MaybeRow → ℕ → Type 0 };
 
     /// What was given fits the dictionary.
-    ghost gave_fits: { (d : Definition) (key : List Value) (row : MaybeRow) (m : ℕ) → gave d key row m → FitsReply d row };
+    ghost gave_fits: { (d : Definition) (key : List Value) (row : MaybeRow) (m : ℕ) → gave d key row m
+        → FitsReply d row };
 
     /// The fetch was handed this moment and these keys in its first state, answered this, and came to its
     /// second state.

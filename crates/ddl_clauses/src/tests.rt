@@ -243,7 +243,8 @@ static ORDERS: [(Among, &[u8], &[u8]); 14] = [
     (Among::Clauses, b"`COMMENT` 'a'", b" left13"),
     (
         Among::All,
-        b"comment 'a' settings(MAX_output_bytes=1)range(min `s` MAX e)Lifetime(2)LAYOUT(Flat)source(`Executable`(FORMAT CSV COMMAND 'd'))",
+        b"comment 'a' settings(MAX_output_bytes=1)range(min `s` MAX e)Lifetime(2)LAYOUT(Flat)\
+          source(`Executable`(FORMAT CSV COMMAND 'd'))",
         b" command d csv flat least2 most2 from s to e output1 comment a output=1",
     ),
     (

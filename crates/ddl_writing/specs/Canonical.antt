@@ -219,7 +219,8 @@ lifetime_text lifetime =
 abbrev pub range_text : Definition → RangeOf → List ℕ
 range_text d range.None = []
 range_text d (range.Columns start end) =
-    word_text word.RangeMin ++ (column_name_text d start ++ (word_text word.Max ++ (column_name_text d end ++ codes ")")))
+    word_text word.RangeMin
+    ++ (column_name_text d start ++ (word_text word.Max ++ (column_name_text d end ++ codes ")")))
 
 abbrev pub output_text : ℕ → List ℕ
 output_text most = numbered word.Output most ++ codes ")"

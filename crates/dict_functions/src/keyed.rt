@@ -284,7 +284,8 @@ fn moment_told(block: bool, now: u64, rows: &Fetched) -> u64
     now
 }
 
-/// The answer at a moment to a lookup in a dictionary whose rows are fetched by key, from what was fetched for its keys.
+/// The answer at a moment to a lookup in a dictionary whose rows are fetched by key, from what was fetched for its
+/// keys.
 pub fn answer_keyed(alloc: Global, d: &Definition, q: &Asked, now: u64, rows: &Fetched) -> Reply
     requires lookup { IsLookup q.now }
     requires sound { IsSound d.now }

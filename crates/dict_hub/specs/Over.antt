@@ -80,7 +80,8 @@ count_at count (x ∷ xs) zero = count x
 count_at count (x ∷ xs) (suc place) = count_at count xs place
 
 -- the dictionary at a place moved so, and of the rest only the children that come may differ
-pub record At {D F : Type 0} (place : ℕ) (old new : OverState D F) (moves : D → Children → D → Children → Type 0) : Type 0 where
+pub record At {D F : Type 0} (place : ℕ) (old new : OverState D F) (moves : D → Children → D → Children → Type 0)
+    : Type 0 where
   pub from : D
   pub to : D
   pub is : slice_get old.dictionaries place ≡ Some from
@@ -105,8 +106,8 @@ pub record Moves (D F : Type 0) : Type 1 where
   pub judged : D → Definition → Bool → Type 0
   pub reads : F → Result (List Item) ConfigEnd → F → Type 0
 
-abbrev pub moves_of : {D F : Type 0} → (D → Result (Seen Contents) EnterFault → D → Type 0) → (D → StatusRow → D → Type 0)
-    → (D → Children → ℕ → LoadEnd → D → Children → Type 0) → (D → Children → ℕ → Option LoadEnd → D → Children → Type 0)
+abbrev pub moves_of : {D F : Type 0} → (D → Result (Seen Contents) EnterFault → D → Type 0)
+    → (D → StatusRow → D → Type 0) → (D → Children → ℕ → LoadEnd → D → Children → Type 0) → (D → Children → ℕ → Option LoadEnd → D → Children → Type 0)
     → (D → Definition → Children → ℕ → LoadEnd → D → Children → Type 0) → (D → Definition → Bool → Type 0)
     → (F → Result (List Item) ConfigEnd → F → Type 0) → Moves D F
 moves_of entered taught loaded due loaded_as judged reads = record {
@@ -163,7 +164,8 @@ FollowUpTo moves now items zero old counts new = (new ≡ old) × (counts ≡ no
 FollowUpTo {D} {F} moves now items (suc count) old counts new =
     (mid : OverState D F) × (so_far : Counts) × (item : Item) × (slice_get items count ≡ Some item)
     × FollowUpTo moves now items count old so_far mid
-    × At count mid new (λ from before to after. Follows moves.judged moves.loaded_as now item so_far from before to after counts)
+    × At count mid new
+    (λ from before to after. Follows moves.judged moves.loaded_as now item so_far from before to after counts)
 
 -- a state behind a reading of the file
 abbrev pub with_file : {D F : Type 0} → OverState D F → F → OverState D F

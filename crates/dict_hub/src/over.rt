@@ -117,7 +117,8 @@ impl<S: Spawner, K: Clock, C: DictAt<S>, F: FileAt> DeskOver<S, K, C, F> {
 impl<S: Spawner, K: Clock, C: DictAt<S> + Drop, F: FileAt> DeskOver<S, K, C, F> {
     /// The spawner, the clock and the file, as the desk leaves them.
     pub fn into_parts(self) -> (S, K, F)
-        ensures children { children_of S.scripts S.starts result.0 ≡ (⟦<DeskOver<S, K, C, F> as Desk>⟧.state self).children }
+        ensures children { children_of S.scripts S.starts result.0
+            ≡ (⟦<DeskOver<S, K, C, F> as Desk>⟧.state self).children }
         ensures moments { K.moments result.1 ≡ (⟦<DeskOver<S, K, C, F> as Desk>⟧.state self).moments }
         ensures file { F.state result.2 ≡ (⟦<DeskOver<S, K, C, F> as Desk>⟧.state self).file }
     {

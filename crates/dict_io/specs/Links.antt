@@ -12,7 +12,8 @@ pub record Ends : Type 0 where
 abbrev pub written_side : Option (List ℕ) → ℕ → Side
 written_side known faults = side known faults false
 
--- the ends of what is left with the faults of reads and whether it ended, and what was written with the faults of writes
+-- the ends of what is left with the faults of reads and whether it ended, and what was written with the faults of
+-- writes
 abbrev pub ends_of : Option (List ℕ) → ℕ → Bool → Option (List ℕ) → ℕ → Ends
 ends_of left read_faults ended written write_faults =
     record { reads = side left read_faults ended; writes = written_side written write_faults }

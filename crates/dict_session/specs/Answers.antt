@@ -127,7 +127,8 @@ CallsOf (Load d) now calls = (end : LoadEnd) × (calls ≡ Reloaded d now end �
 CallsOf (Teach d) now calls = (row : StatusRow) × (calls ≡ Taught d row ∷ [])
 CallsOf Configure now calls = (end : ConfigEnd) × (calls ≡ Configured now end ∷ [])
 CallsOf (Fetch d) now calls = (calls ≡ [])
-    ⊎ ((keys : List (List Value)) × (answer : Result (List FetchedRow) FetchFault) × (calls ≡ Keyed d now keys answer ∷ []))
+    ⊎ ((keys : List (List Value)) × (answer : Result (List FetchedRow) FetchFault)
+    × (calls ≡ Keyed d now keys answer ∷ []))
 CallsOf (Apply f) now calls = (calls ≡ [])
     ⊎ ((rows : List (List Value)) × (answer : Result (List Value) CallFault) × (calls ≡ Called f rows answer ∷ []))
 CallsOf _ now calls = calls ≡ []

@@ -34,7 +34,8 @@ pub record AnsweredAt {S : Type 0} (facts : Facts S) (s : S) (heard : Option Hea
   pub tells : Tells calls answer.place answer.event
 
 -- the same with the moment and what was due before it
-pub record Exchanged {S : Type 0} (facts : Facts S) (s : S) (heard : Option Heard) (answer : Answer) (t : S) : Type 0 where
+pub record Exchanged {S : Type 0} (facts : Facts S) (s : S) (heard : Option Heard) (answer : Answer) (t : S)
+    : Type 0 where
   pub now : ℕ
   pub calls : List Act
   pub moved : Moved facts s (acts_for now calls) t
@@ -102,7 +103,8 @@ IsTurnEnd end.NoMemory = ⊥
 IsTurnEnd _ = ⊤
 
 -- one request was answered, or the session ended
-abbrev pub IsTurn : {S : Type 0} → Facts S → S → Place → Turn → S → List ℕ → Ends → List CallerCore → List CallerCore → Type 0
+abbrev pub IsTurn : {S : Type 0} → Facts S → S → Place → Turn → S → List ℕ → Ends → List CallerCore
+    → List CallerCore → Type 0
 IsTurn facts s p turn.More t ahead new cores later = Going facts s p t (place ahead new) 1 cores later
 IsTurn facts s p (turn.Over ended) t ahead new cores later = IsTurnEnd ended × Ending facts s p ended t new cores later
 

@@ -109,7 +109,8 @@ fn raise(floors: &mut Vec<CallerCore>, place: u32, event: CallerEvent)
 
 /// Writes a reply in one piece; where memory lacks for its text, that is the reply.
 fn send<L: Link>(link: &mut L, reply: &Reply, out: &mut Bytes) -> Result<(), Failed>
-    ensures { (said : Reply) × OrNoMemory reply.now said × Puts (L.ends link.old) (reply_text said) result (L.ends link.new) }
+    ensures { (said : Reply) × OrNoMemory reply.now said
+        × Puts (L.ends link.old) (reply_text said) result (L.ends link.new) }
 {
     out.clear();
     match write_reply(reply, out) {

@@ -128,17 +128,17 @@ pub data OnceRun {R : Type 0} (shelf : ShelfTold R) (ran : Ran) (words : List (L
   misused : ((name : List ℕ) (seed : ℕ) → IsOnce words name seed → ⊥) → told ≡ status.Usage → o' ≡ o → new ≡ old
       → OnceRun shelf ran words o old told o' new
   -- the file has no items
-  unread : (name : List ℕ) (seed : ℕ) (why : ConfigEnd) → IsOnce words name seed → ReadsFrom shelf o.readings name (Err why)
-      → told ≡ status_for why → o' ≡ once_read shelf o → new ≡ old → OnceRun shelf ran words o old told o' new
+  unread : (name : List ℕ) (seed : ℕ) (why : ConfigEnd) → IsOnce words name seed
+      → ReadsFrom shelf o.readings name (Err why) → told ≡ status_for why → o' ≡ once_read shelf o → new ≡ old → OnceRun shelf ran words o old told o' new
   -- an item of it isn't served yet, which is told of the file's first byte
-  unserved : (name : List ℕ) (seed : ℕ) (items : List Item) → IsOnce words name seed → ReadsFrom shelf o.readings name (Ok items)
-      → (AllLoaded items → ⊥) → IsUnserved told → o' ≡ once_read shelf o → new ≡ old
+  unserved : (name : List ℕ) (seed : ℕ) (items : List Item) → IsOnce words name seed
+      → ReadsFrom shelf o.readings name (Ok items) → (AllLoaded items → ⊥) → IsUnserved told → o' ≡ once_read shelf o → new ≡ old
       → OnceRun shelf ran words o old told o' new
   -- memory was refused for the items
   refused : (name : List ℕ) (seed : ℕ) → IsOnce words name seed → told ≡ status.NoMemory → o' ≡ once_read shelf o
       → new ≡ old → OnceRun shelf ran words o old told o' new
   -- the dictionaries of the file are served
-  served : (name : List ℕ) (seed : ℕ) (items : List Item) (folder : List ℕ) (ended : SessionEnd) → IsOnce words name seed
-      → ReadsFrom shelf o.readings name (Ok items) → AllLoaded items → IsFolder name folder
+  served : (name : List ℕ) (seed : ℕ) (items : List Item) (folder : List ℕ) (ended : SessionEnd)
+      → IsOnce words name seed → ReadsFrom shelf o.readings name (Ok items) → AllLoaded items → IsFolder name folder
       → ServesIn shelf ran items name folder seed (once_read shelf o) old ended o' new → told ≡ status_of ended
       → OnceRun shelf ran words o old told o' new

@@ -1,7 +1,7 @@
 //! dictd: a lookup server for dictionaries whose rows come from programs.
 //!
-//! Today it answers the requests of one input from the dictionaries of a definitions file, by `dictd once DEFS SEED`. It
-//! promises that what it writes, which children it starts, and the status that it ends with come from the words, the
+//! Today it answers the requests of one input from the dictionaries of a definitions file, by `dictd once DEFS SEED`.
+//! It promises that what it writes, which children it starts, and the status that it ends with come from the words, the
 //! definitions file, the moments, the children and the requests as the definitions say, and that each status comes only
 //! where its cause stands. It takes no Wait and starts no thread.
 #![tactic(auto)]

@@ -6,8 +6,8 @@ unfoldable pub above : List ℕ → ℕ → ℕ → ℕ
 above ups zero member = member
 above ups (suc count) member = slice_index ups (above ups count member) - 1
 
--- The members of a chain, so many. They have rows, where `rows` isn't 0, and differ; and behind the last is none, one without a row,
--- or one of them.
+-- The members of a chain, so many. They have rows, where `rows` isn't 0, and differ; and behind the last is none, one
+-- without a row, or one of them.
 pub record IsCounted (ups rows : List ℕ) (member count : ℕ) : Type 0 where
   pub linked : (i : ℕ) → i + 1 < count → 0 < slice_index ups (above ups i member)
   pub has_rows : (i : ℕ) → i < count → 0 < slice_index rows (above ups i member)
@@ -46,7 +46,8 @@ IsBelow ups member other = (other < length ups) × (slice_index ups other ≡ me
 abbrev pub Reaches : List ℕ → ℕ → ℕ → ℕ → Type 0
 Reaches ups member zero other = other ≡ member
 Reaches ups member (suc level) other =
-    (other ≢ member) × (other < length ups) × (0 < slice_index ups other) × Reaches ups member level (slice_index ups other - 1)
+    (other ≢ member) × (other < length ups) × (0 < slice_index ups other)
+    × Reaches ups member level (slice_index ups other - 1)
 
 -- at a level, from 1; level 0 stands for all of 32 bits
 abbrev pub IsFoundAt : List ℕ → ℕ → ℕ → ℕ → Type 0

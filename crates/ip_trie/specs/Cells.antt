@@ -94,8 +94,8 @@ pub record AreLeaves (leaves : List Leaf) : Type 0 where
   pub small : (row : ℕ) → (leaf_at leaves row).bits < 2 ^ 128
   pub cleared : (row : ℕ) → (leaf_at leaves row).bits % 2 ^ (128 - (leaf_at leaves row).len) ≡ 0
 
--- The trie of the first rows. Its nodes have 16 cells each; each node is on one way, which a row takes; and each cell on
--- a way tells the best row that ends there.
+-- The trie of the first rows. Its nodes have 16 cells each; each node is on one way, which a row takes; and each cell
+-- on a way tells the best row that ends there.
 pub record IsTrie (leaves : List Leaf) (v6 : Bool) (count : ℕ) (cells : List Cell) : Type 0 where
   pub size : TABLE + 16 ≤ length cells
   pub whole : length cells % 16 ≡ 0

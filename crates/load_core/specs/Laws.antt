@@ -94,8 +94,8 @@ BeginsWith d x _ definition = ⊥
 
 -- The entry of dictionary d, which has these before it, is of one load in this run. The load began with the entry's
 -- definition, and was answered with the load's number. The pieces from there to its one Finish, of a child with status
--- 0, join to the entry's bytes, which the judge accepts for that definition after the entries before it. Its one Publish
--- was answered with the entry's number.
+-- 0, join to the entry's bytes, which the judge accepts for that definition after the entries before it. Its one
+-- Publish was answered with the entry's number.
 pub record IsOfOneLoad (judges : Verdicts) (first : World) (events : List WorldEvent) (now : World)
     (d : ℕ) (before : List WorldEntry) (entry : WorldEntry) : Type 0 where
   pub opening : WorldEvent

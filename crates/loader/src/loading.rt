@@ -155,8 +155,8 @@ pub(crate) fn run_load<C: Counter, S: Spawner, P: Publisher<V = Version<C>>>(
     ensures run { let runs = RunsOne S.scripts S.starts S.started S.C.told S.C.history S.C.faults d.now spawner.old
         spawner.new in (before : CoreOf) → core.old ≡ (stepped before Start).core →
         RunsLoad runs d.now now folder.now (P.list publisher.old) (P.list publisher.new) before core.new
-        (load_end_of result) ⊎ StartsNone (spawner.new ≡ spawner.old) d.now now (P.list publisher.old) (P.list publisher.new) before core.new
-        (load_end_of result) }
+        (load_end_of result) ⊎ StartsNone (spawner.new ≡ spawner.old) d.now now (P.list publisher.old)
+        (P.list publisher.new) before core.new (load_end_of result) }
     ensures cause { HasCause (S.start_faults spawner.old) (S.start_faults spawner.new)
         (IsErrOf result (LoadFault.Refused Cause.Start)) }
     ensures told { IfOk result (λ fresh. IsNewToken (P.is_of publisher.new) (P.told_list publisher.new)

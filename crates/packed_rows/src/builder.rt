@@ -221,8 +221,10 @@ impl RowsBuilder {
     pub fn push_cell(&mut self, cell: &Cell<'_>) -> Result<(), NoMemory>
         requires room { length self.old.open_row < length self.old.types }
         requires few { length self.old.rows < 4294967295 }
-        requires fits { (t : AttrType) → slice_get self.old.types (length self.old.open_row) ≡ Some t → FitsColumn t (meaning cell.now) }
-        ensures ok { OnOk result (self.new ≡ record self.old { open_row = self.old.open_row ++ meaning cell.now ∷ [] }) }
+        requires fits { (t : AttrType) → slice_get self.old.types (length self.old.open_row) ≡ Some t
+            → FitsColumn t (meaning cell.now) }
+        ensures ok { OnOk result
+            (self.new ≡ record self.old { open_row = self.old.open_row ++ meaning cell.now ∷ [] }) }
         ensures err { OnErr result (self.new ≡ self.old) }
     {
         let before = self.text.len();

@@ -12,8 +12,8 @@ use Rattle.wire_text.specs.declared.request.Request.{Request}
 use Rattle.wire_text.specs.declared.request.Request.TheVariants as request
 use Rattle.wire_text.specs.declared.request.Verb.{Verb}
 
--- What is heard of a request: what it asks for, that it has no reading, or that it has more lines or bytes than a request
--- may have. That the row of a key is too large for a child is found later, by its definition.
+-- What is heard of a request: what it asks for, that it has no reading, or that it has more lines or bytes than a
+-- request may have. That the row of a key is too large for a child is found later, by its definition.
 pub data Heard : Type 0 where
   asks : Request → Heard
   bad : Heard

@@ -324,7 +324,8 @@ fn ranges(rt: HostRuntime) -> Result<(), Fail> {
     assert!(rt;
         has(
             text,
-            b" LAYOUT(RANGE_HASHED(range_lookup_strategy 'min')) LIFETIME(MIN 3 MAX 4) RANGE(MIN `from` MAX `to`) SETTINGS(max_output_bytes = 67108864) COMMENT 'it\\'s'"
+            b" LAYOUT(RANGE_HASHED(range_lookup_strategy 'min')) LIFETIME(MIN 3 MAX 4) RANGE(MIN `from` MAX `to`) \
+              SETTINGS(max_output_bytes = 67108864) COMMENT 'it\\'s'"
         )
     );
     let written = text_of(alloc, ranged(alloc, Strategy::Max)?)?;
@@ -373,7 +374,8 @@ fn pools(rt: HostRuntime) -> Result<(), Fail> {
     assert!(rt;
         has(
             text,
-            b" SOURCE(EXECUTABLE_POOL(command 'c' format 'CSV' execute_direct 1 implicit_key 1 send_chunk_header 1 command_read_timeout 1 command_write_timeout 2 command_termination_timeout 3 pool_size 4 max_command_execution_time 5)) LAYOUT("
+            b" SOURCE(EXECUTABLE_POOL(command 'c' format 'CSV' execute_direct 1 implicit_key 1 send_chunk_header 1 \
+              command_read_timeout 1 command_write_timeout 2 command_termination_timeout 3 pool_size 4 max_command_execution_time 5)) LAYOUT("
         )
     );
     Ok(())
@@ -431,8 +433,9 @@ fn a_function(rt: HostRuntime) -> Result<(), Fail> {
     });
     let mut out = Bytes::new(alloc);
     write_definition(&function, &mut out)?;
-    let wanted: &[u8] =
-        b"EXECUTABLE FUNCTION `f` (`a` UInt8, `b` Nullable(String)) RETURNS Date SOURCE(EXECUTABLE(command 'c' format 'TabSeparated' execute_direct 0 send_chunk_header 0 command_read_timeout 10000 command_write_timeout 10000 command_termination_timeout 10)) SETTINGS(max_output_bytes = 9)";
+    let wanted: &[u8] = b"EXECUTABLE FUNCTION `f` (`a` UInt8, `b` Nullable(String)) RETURNS Date \
+          SOURCE(EXECUTABLE(command 'c' format 'TabSeparated' execute_direct 0 send_chunk_header 0 \
+          command_read_timeout 10000 command_write_timeout 10000 command_termination_timeout 10)) SETTINGS(max_output_bytes = 9)";
     assert_eq!(rt; out.as_slice(), wanted);
     Ok(())
 }
