@@ -1,7 +1,7 @@
 //! Times lookups by key, by address, by range, and of chains of parents. The words are a layout, `flat`, `hashed` or
-//! `complex`, or a search, `v4`, `v6`, `chains`, `ranges` or `overlaps`; which keys of a layout are asked, `half`, `all`
-//! or `none` of them there; how many keys and how many finds, and a number of rounds. The program prints how many were
-//! found and, for more than no rounds, the shortest build and the shortest run of finds in microseconds.
+//! `complex`, or a search, `v4`, `v6`, `chains`, `ranges` or `overlaps`; which keys of a layout are asked, `half`,
+//! `all` or `none` of them there; how many keys and how many finds, and a number of rounds. The program prints how
+//! many were found and, for more than no rounds, the shortest build and the shortest run of finds in microseconds.
 #![tactic(auto)]
 
 mod key_source;

@@ -107,7 +107,8 @@ pub record Moves (D F : Type 0) : Type 1 where
   pub reads : F → Result (List Item) ConfigEnd → F → Type 0
 
 abbrev pub moves_of : {D F : Type 0} → (D → Result (Seen Contents) EnterFault → D → Type 0)
-    → (D → StatusRow → D → Type 0) → (D → Children → ℕ → LoadEnd → D → Children → Type 0) → (D → Children → ℕ → Option LoadEnd → D → Children → Type 0)
+    → (D → StatusRow → D → Type 0) → (D → Children → ℕ → LoadEnd → D → Children → Type 0)
+    → (D → Children → ℕ → Option LoadEnd → D → Children → Type 0)
     → (D → Definition → Children → ℕ → LoadEnd → D → Children → Type 0) → (D → Definition → Bool → Type 0)
     → (F → Result (List Item) ConfigEnd → F → Type 0) → Moves D F
 moves_of entered taught loaded due loaded_as judged reads = record {

@@ -1,8 +1,10 @@
 -- One run of `once`: the definitions, the first loads, the session, and how it ends.
 use Rattle.std.specs.Prelude.{◌≡◌, ◌⊎◌, ℕ, List, Option, Result, Ok, Err, codes, length, true}
 use Rattle.child_io.specs.Words.{IsFolder}
-use Rattle.dict_hub.specs.Over.{AllLoaded, Children, LoadUpTo, Moves, OverState, Ticked, moves_of, over_facts, over_state, view_at}
-use Rattle.dict_hub.specs.Plain.{PlainDue, PlainEntered, PlainJudged, PlainLoaded, PlainLoadedAs, PlainState, PlainTaught, opened}
+use Rattle.dict_hub.specs.Over.{AllLoaded, Children, LoadUpTo, Moves, OverState, Ticked}
+use Rattle.dict_hub.specs.Over.{moves_of, over_facts, over_state, view_at}
+use Rattle.dict_hub.specs.Plain.{PlainDue, PlainEntered, PlainJudged, PlainLoaded, PlainLoadedAs, PlainState}
+use Rattle.dict_hub.specs.Plain.{PlainTaught, opened}
 use Rattle.dict_hub.specs.Readings.{FileState, ReadsItems, ReadsOnce, file_state}
 use Rattle.dict_io.specs.Links.{Ends}
 use Rattle.dict_io.specs.declared.outside.ShelfFault.{ShelfFault}
@@ -129,11 +131,12 @@ pub data OnceRun {R : Type 0} (shelf : ShelfTold R) (ran : Ran) (words : List (L
       → OnceRun shelf ran words o old told o' new
   -- the file has no items
   unread : (name : List ℕ) (seed : ℕ) (why : ConfigEnd) → IsOnce words name seed
-      → ReadsFrom shelf o.readings name (Err why) → told ≡ status_for why → o' ≡ once_read shelf o → new ≡ old → OnceRun shelf ran words o old told o' new
+      → ReadsFrom shelf o.readings name (Err why) → told ≡ status_for why → o' ≡ once_read shelf o → new ≡ old
+      → OnceRun shelf ran words o old told o' new
   -- an item of it isn't served yet, which is told of the file's first byte
   unserved : (name : List ℕ) (seed : ℕ) (items : List Item) → IsOnce words name seed
-      → ReadsFrom shelf o.readings name (Ok items) → (AllLoaded items → ⊥) → IsUnserved told → o' ≡ once_read shelf o → new ≡ old
-      → OnceRun shelf ran words o old told o' new
+      → ReadsFrom shelf o.readings name (Ok items) → (AllLoaded items → ⊥) → IsUnserved told
+      → o' ≡ once_read shelf o → new ≡ old → OnceRun shelf ran words o old told o' new
   -- memory was refused for the items
   refused : (name : List ℕ) (seed : ℕ) → IsOnce words name seed → told ≡ status.NoMemory → o' ≡ once_read shelf o
       → new ≡ old → OnceRun shelf ran words o old told o' new
