@@ -17,12 +17,16 @@ told() {
 
 lookup=$(printf 'dictGet\td\tx\t2')
 
+# counts of made lookups
+run 11 demo 4 1 </dev/null
+run 12 demo 1000000 1 </dev/null
 # out of form
 run 20 </dev/null
 run 21 once d.sql </dev/null
 run 22 once d.sql x </dev/null
 run 23 once d.sql "$(printf '\377')" </dev/null
 run 24 serve d.sql 127.0.0.1:0 1 1 </dev/null
+run 26 demo 0 1 </dev/null
 # the definitions file is missing, a folder, another text, too long; it has a fault in its second line, or a layout that is not served
 run 30 once missing.sql 1 </dev/null
 run 31 once . 1 </dev/null
@@ -40,6 +44,9 @@ head -c 65537 /dev/zero | run 70 once d.sql 1
 # the output takes nothing
 number=60
 echo "$lookup" | "$program" once d.sql 1 >/dev/full 2>err
+told $? </dev/null
+number=61
+"$program" demo 4 1 >/dev/full 2>err
 told $? </dev/null
 # nor does the error output, which is passed over
 number=25

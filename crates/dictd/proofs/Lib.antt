@@ -1,3 +1,4 @@
 pub mod CommandWords
+pub mod Demos
 pub mod Telling
 pub mod Serving

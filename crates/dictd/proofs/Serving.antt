@@ -1,7 +1,7 @@
 -- A run of `once` by its end: the faults that it tells.
-use Rattle.std.proofs.Common.{◌≡◌, ◌≤◌, ◌<◌, ◌∙◌, ◌⊎◌, ℕ, List, Option, Result, Ok, Err, length, true, arith, refl, sym, ap, subst, inl, inr}
+use Rattle.std.proofs.Common.{◌≡◌, ◌∙◌, ℕ, List, Option, Ok, Err, length, true, arith, refl, sym, ap, subst, inl, inr}
 use Rattle.child_io.specs.Words.{IsFolder}
-use Rattle.dict_hub.specs.Over.{AllLoaded, Children, LoadUpTo, Ticked, over_state}
+use Rattle.dict_hub.specs.Over.{Children, LoadUpTo, Ticked, over_state}
 use Rattle.dict_hub.specs.Plain.{PlainState, opened}
 use Rattle.dict_hub.specs.Readings.{file_state}
 use Rattle.dict_io.specs.Links.{Ends}
@@ -13,7 +13,7 @@ use Rattle.dict_session.specs.declared.session.SessionEnd.{SessionEnd}
 use Rattle.dict_session.specs.declared.session.SessionEnd.TheVariants as end
 use Rattle.dictd.specs.CommandLine.{IsOnce}
 use Rattle.dict_session.specs.Session.{Serves}
-use Rattle.dictd.specs.OneRun.{AllOrigins, IsUnserved, Local, OnceRun, Outer, ReadsServed, Runs, ServesIn, ShelfTold, local_facts, local_moves}
+use Rattle.dictd.specs.OneRun.{AllOrigins, IsUnserved, Local, OnceRun, Outer, ReadsServed, ServesIn, ShelfTold, local_facts, local_moves}
 use Rattle.dictd.specs.OneRun.{once_read, opening, outer, outer_of, status_for, status_of}
 use Rattle.dictd.specs.declared.status.Status.{Status}
 use Rattle.dictd.specs.declared.status.Status.TheVariants as status

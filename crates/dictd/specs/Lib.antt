@@ -2,3 +2,4 @@
 pub mod CommandLine
 pub mod Statuses
 pub mod OneRun
+pub mod Demo

@@ -1,11 +1,13 @@
 //! dictd: a lookup server for dictionaries whose rows come from programs.
 //!
-//! Today it answers the requests of one input from the dictionaries of a definitions file, by `dictd once DEFS SEED`.
+//! Today it answers the requests of one input from the dictionaries of a definitions file, by `dictd once DEFS SEED`,
+//! and counts the lookups in a dictionary that it makes, by `dictd demo N SEED`.
 //! It promises that what it writes, which children it starts, and the status that it ends with come from the words, the
 //! definitions file, the moments, the children and the requests as the definitions say, and that each status comes only
 //! where its cause stands. It takes no Wait and starts no thread.
 #![tactic(auto)]
 
+mod demo;
 mod once;
 mod status;
 #[cfg(test)]
@@ -49,9 +51,12 @@ fn called_words(rt: &HostRuntime) -> Result<Vec<String>, Status> {
     Ok(words)
 }
 
-/// Runs `once` over the real objects.
+/// Runs `demo` where it is the first word, and otherwise `once`, over the real objects.
 fn run<W: Write>(rt: &HostRuntime, words: &[String], err: &mut StdSink<W>) -> Status {
     let alloc = rt.alloc();
+    if words.first().is_some_and(|verb| verb.as_str() == "demo") {
+        return demo::demo(alloc, words, &mut StdSink::new(rt.stdout()), err);
+    }
     let outside = Outside {
         shelf: FileShelf::new(rt, alloc),
         spawner: OsSpawner::new(rt, alloc),

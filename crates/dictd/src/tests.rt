@@ -2,6 +2,7 @@
 ghost use Rattle.std.specs.Prelude.{◌≡◌, IfOk, false};
 
 mod changes;
+mod demo;
 mod layouts;
 mod loads;
 mod requests;

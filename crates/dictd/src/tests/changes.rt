@@ -1,4 +1,6 @@
 // Definitions that change while a session runs.
+ghost use Rattle.std.specs.Prelude.{ℕ, None};
+
 use super::{Child, Ends, FLAT, Session, run_session};
 use dict_io::{Shelf, ShelfFault};
 use dict_value::{Bytes, NoMemory};
@@ -15,9 +17,9 @@ struct Changing {
 }
 
 impl Shelf for Changing {
-    ghost Readings = { Unit {0} };
+    ghost Readings = { ℕ };
 
-    ghost readings = { λ s. unit };
+    ghost readings = { λ s. 0 };
 
     ghost file = { λ readings name. None };
 

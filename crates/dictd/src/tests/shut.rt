@@ -47,11 +47,9 @@ impl<D: Desk> Desk for Shutting<D> {
 
     fn enter(&mut self, d: u32) -> Result<Seen<Version<Uncounted>>, EnterFault> {
         self.entered = self.entered.saturating_add(1);
-        let answer = if self.entered == 2 {
-            let _ = self.desk.enter(d);
-            Err(EnterFault::Shut)
-        } else {
-            self.desk.enter(d)
+        let answer = match self.desk.enter(d) {
+            Ok(_) if self.entered == 2 => Err(EnterFault::Shut),
+            answer => answer,
         };
         if matches!(answer, Err(EnterFault::Shut)) {
             self.refused = self.refused.saturating_add(1);

@@ -1,4 +1,4 @@
-use Rattle.std.proofs.Common.{◌∙◌, ap, length, refl}
+use Rattle.std.proofs.Common.{◌∙◌, ap, refl}
 use Rattle.dictd.proofs.Serving.{same_outer, serves_in}
 use Rattle.dictd.specs.OneRun.{shelf_told}
 use Rattle.dictd.proofs.once.serve_in.Goals as goal
