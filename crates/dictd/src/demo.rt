@@ -74,7 +74,7 @@ fn run<O: Sink>(alloc: Global, words: &[String], out: &mut O) -> Status
     }
 }
 
-/// Runs `demo N SEED`: makes a hashed dictionary of N rows, asks for N keys, and prints how many of them have a row, and
+/// Runs `demo N SEED`: makes a hashed dictionary of N rows, asks for N keys, and prints how many of them have a row and
 /// the sum of the values. The counts are those of the key table; the same lookups go through a session of `once` over
 /// objects in memory, and its counts are compared with them. A status other than Done is told on the error output; a
 /// write there that fails is passed over.

@@ -3,7 +3,8 @@ ghost use Rattle.std.specs.Prelude.{◌≡◌, ℕ, List, IsErrOf, false, map, s
 ghost use Rattle.child_io.specs.Words.{IsFolder};
 ghost use Rattle.dict_hub.specs.Over.{children_of};
 ghost use Rattle.dict_io.specs.Outside.{HasCause, Rose};
-ghost use Rattle.dictd.specs.OneRun.{IsUnserved, OnceRun, ReadsServed, ServesIn, outer, shelf_told, status_for, status_of};
+ghost use Rattle.dictd.specs.OneRun.{IsUnserved, OnceRun, ReadsServed, ServesIn};
+ghost use Rattle.dictd.specs.OneRun.{outer, shelf_told, status_for, status_of};
 ghost use Rattle.dictd.specs.Statuses.{Tells, status_text};
 
 use crate::status::{Status, tell};

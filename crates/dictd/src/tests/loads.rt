@@ -1,5 +1,8 @@
 // Loads: what is published, and what a failed load leaves.
-use super::{Ends, FLAT, Session, check_sessions};
+use super::{Ends, FLAT, Session, check_sessions, clock, run_told, script, shelf, source};
+use crate::once::Outside;
+use child_io::MemorySpawner;
+use dict_value::{Bytes, ListOf, MOST_ROWS};
 use std::test::Fail;
 
 static LOADS: [Session; 8] = [
@@ -88,4 +91,26 @@ static LOADS: [Session; 8] = [
 #[test]
 fn loads_publish_or_leave_the_version(rt: HostRuntime) -> Result<(), Fail> {
     check_sessions(&rt, rt.alloc(), &LOADS)
+}
+
+#[test]
+fn one_row_too_many_is_told(rt: HostRuntime) -> Result<(), Fail> {
+    let alloc = rt.alloc();
+    let mut output = Bytes::new(alloc);
+    for _ in 0..=MOST_ROWS {
+        output.extend(b"1\ta\n")?;
+    }
+    let mut child = script(alloc, output.as_slice(), Ends::With(0))?;
+    child.failing_reads = ListOf::new(alloc);
+    let mut scripts = ListOf::new(alloc);
+    scripts.push(child)?;
+    let outside = Outside {
+        shelf: shelf(alloc, FLAT, &[])?,
+        spawner: MemorySpawner::new(alloc, scripts),
+        clock: clock(alloc, &[])?,
+    };
+    let input = source(alloc, b"status\td\n", &[])?;
+    let told = run_told(alloc, &["once", "d.sql", "1"], outside, input, 100, 100)?;
+    assert!(rt; told.out.as_slice() == b"OK\tv0\tFAILED\t0\t1\t7 rows 4194304\n".as_slice());
+    Ok(())
 }
