@@ -1,7 +1,7 @@
 -- What `demo` prints: a hashed dictionary of made rows is asked for made keys.
-use Rattle.std.specs.List.{range_with_len}
-use Rattle.std.specs.Prelude.{◌≡◌, ◌+◌, ◌*◌, ◌%◌, ℕ, List, [], ◌∷◌, ◌++◌, Option, None, Some, Result, Ok, Err}
-use Rattle.std.specs.Prelude.{codes, decimal, map}
+use Rattle.std.specs.List.{AllZip, filter_map, range_with_len, sum}
+use Rattle.std.specs.Prelude.{◌≡◌, ◌+◌, ◌*◌, ◌%◌, ℕ, List, [], ◌∷◌, ◌++◌, Option, Result, Ok, Err}
+use Rattle.std.specs.Prelude.{codes, decimal, length, map}
 use Rattle.dict_io.specs.Outside.{WritesPrefix}
 use Rattle.dict_io.specs.declared.outside.Failed.{Failed}
 use Rattle.dict_value.specs.FindByKey.{FindsByKey}
@@ -20,16 +20,21 @@ asked_key rows seed lookup = (lookup * 69621 + 3 * seed) % (2 * rows)
 abbrev pub row_keys : (rows seed : ℕ) → List ℕ
 row_keys rows seed = map (row_key rows seed) (range_with_len 0 rows)
 
--- of the first so many lookups so many have a row, and the values answered have this sum: a lookup answers the value of
--- the first row with its key, and 0 where there is none
-pub data Counts (rows seed : ℕ) : (lookups hits sum : ℕ) → Type 0 where
-  none : Counts rows seed 0 0 0
-  missed : (lookups hits sum : ℕ) → Counts rows seed lookups hits sum
-      → FindsByKey (row_keys rows seed) (asked_key rows seed lookups) None
-      → Counts rows seed (lookups + 1) hits sum
-  found : (lookups hits sum value : ℕ) → Counts rows seed lookups hits sum
-      → FindsByKey (row_keys rows seed) (asked_key rows seed lookups) (Some value)
-      → Counts rows seed (lookups + 1) (hits + 1) (sum + value)
+-- the keys that the lookups ask for, in their order
+abbrev pub asked_keys : (rows seed : ℕ) → List ℕ
+asked_keys rows seed = map (asked_key rows seed) (range_with_len 0 rows)
+
+-- the values that were found
+abbrev pub values_in : List (Option ℕ) → List ℕ
+values_in answers = filter_map (λ answer. answer) answers
+
+-- the keys that were asked for are answered, each by the number of the first row with it; so many of them have a row,
+-- and the values found have this sum
+pub record Counts (rows seed : ℕ) (asked : List ℕ) (hits total : ℕ) : Type 0 where
+  pub answers : List (Option ℕ)
+  pub answered : AllZip (FindsByKey (row_keys rows seed)) asked answers
+  pub hits_are : hits ≡ length (values_in answers)
+  pub total_is : total ≡ sum (values_in answers)
 
 -- the line that is printed: there are as many lookups as rows
 abbrev pub demo_text : (rows hits sum : ℕ) → List ℕ
@@ -50,6 +55,6 @@ pub data DemoRun (words : List (List ℕ)) (old : Option (List ℕ)) (told : Sta
   -- memory was refused before anything was written
   refused : (rows seed : ℕ) → IsDemo words rows seed → told ≡ status.NoMemory → new ≡ old → DemoRun words old told new
   -- the counts over all lookups were written, or a front of their line
-  printed : (rows seed hits sum : ℕ) (sent : Result (Unit {0}) Failed) → IsDemo words rows seed
-      → Counts rows seed rows hits sum → WritesPrefix old new (demo_text rows hits sum) sent → told ≡ status_sent sent
+  printed : (rows seed hits total : ℕ) (sent : Result (Unit {0}) Failed) → IsDemo words rows seed
+      → Counts rows seed (asked_keys rows seed) hits total → WritesPrefix old new (demo_text rows hits total) sent → told ≡ status_sent sent
       → DemoRun words old told new

@@ -1,7 +1,7 @@
 // The run of `demo`: lookups in a hashed dictionary of made rows, counted.
 ghost use Rattle.std.specs.Prelude.{◌≡◌, ◌<◌, ◌≤◌, IfOk, List, map, string_bytes, ℕ};
 ghost use Rattle.dict_io.specs.Outside.{HasCause, Rose};
-ghost use Rattle.dictd.specs.Demo.{Counts as CountsOf, DemoRun, demo_text};
+ghost use Rattle.dictd.specs.Demo.{Counts as CountsOf, DemoRun, asked_keys, demo_text};
 ghost use Rattle.dictd.specs.Statuses.{Tells, status_text};
 
 mod counts;
@@ -32,11 +32,12 @@ fn demo_line(alloc: Global, rows: u64, counts: Counts) -> Result<Bytes, NoMemory
     Ok(line)
 }
 
-/// What all lookups count, by the key table and through a session. These differ only where the session lacked memory.
+/// What all lookups count, by the key table; the same lookups through a session are compared with it. Counts that differ
+/// are answered as want of memory, since a session that had it answers the same.
 fn counts_of(alloc: Global, rows: u64, seed: u64) -> Result<Counts, NoMemory>
     requires some { 0 < rows }
     requires few { rows ≤ MOST_DEMO_ROWS }
-    ensures { IfOk result (λ counts. CountsOf rows seed rows counts.hits counts.sum) }
+    ensures { IfOk result (λ counts. CountsOf rows seed (asked_keys rows seed) counts.hits counts.sum) }
 {
     let counts = count_all(alloc, rows, seed)?;
     if session_counts(alloc, rows, seed)? == counts {
@@ -50,8 +51,8 @@ fn counts_of(alloc: Global, rows: u64, seed: u64) -> Result<Counts, NoMemory>
 fn line_of(alloc: Global, rows: u64, seed: u64) -> Result<Bytes, NoMemory>
     requires some { 0 < rows }
     requires few { rows ≤ MOST_DEMO_ROWS }
-    ensures { IfOk result (λ line. (hits : ℕ) × (sum : ℕ) × CountsOf rows seed rows hits sum
-        × (line ≡ demo_text rows hits sum)) }
+    ensures { IfOk result (λ line. (hits : ℕ) × (total : ℕ)
+        × CountsOf rows seed (asked_keys rows seed) hits total × (line ≡ demo_text rows hits total)) }
 {
     let counts = counts_of(alloc, rows, seed)?;
     demo_line(alloc, rows, counts)

@@ -31,6 +31,8 @@ use dict_copies::same_definition;
 use dict_schema::Definition;
 use dict_value::{Bytes, Cause, Counter, NoMemory};
 use dict_version::Version;
+#[cfg(test)]
+use load_core::MOST_LOADS;
 use load_core::{DictCore, DictEffect, DictEvent};
 use packed_rows::Rows;
 use std::alloc::Global;
@@ -445,5 +447,18 @@ impl Loader {
             return self.load_by(alloc, None, spawner, publisher, now, board);
         }
         self.load_by(alloc, Some(d), spawner, publisher, now, board)
+    }
+}
+
+#[cfg(test)]
+impl Loader {
+    /// As after the last load that a dictionary may have.
+    pub(crate) fn use_up(&mut self)
+        ensures at { (list : List Contents) → IsAt self.old list → IsAt self.new list }
+        ensures definition { self.new.definition ≡ self.old.definition }
+    {
+        if self.core.published <= MOST_LOADS {
+            self.core.loads = MOST_LOADS;
+        }
     }
 }

@@ -1,7 +1,7 @@
 // The counts that `demo` prints, by the key table of the hashed layouts.
 ghost use Rattle.std.specs.Prelude.{◌≡◌, ◌<◌, ◌≤◌, ◌*◌, IfOk, length};
 ghost use Rattle.dict_value.specs.FindByKey.{FindsByKey};
-ghost use Rattle.dictd.specs.Demo.{Counts as CountsOf, asked_key, row_key, row_keys};
+ghost use Rattle.dictd.specs.Demo.{Counts as CountsOf, asked_key, asked_keys, row_key, row_keys};
 ghost use Rattle.hashed_layout.specs.Tables.{IsTableOf};
 
 use crate::words::MOST_DEMO_ROWS;
@@ -56,7 +56,7 @@ fn find_all(table: &Hashed, rows: u64, seed: u64) -> Counts
     requires table { IsTableOf (row_keys rows seed) table.now.cells.items }
     requires some { 0 < rows }
     requires few { rows ≤ MOST_DEMO_ROWS }
-    ensures { CountsOf rows seed rows result.hits result.sum }
+    ensures { CountsOf rows seed (asked_keys rows seed) result.hits result.sum }
 {
     let mut counts = Counts { hits: 0, sum: 0 };
     for lookup in 0..rows {
@@ -74,7 +74,7 @@ fn find_all(table: &Hashed, rows: u64, seed: u64) -> Counts
 pub fn count_all(alloc: Global, rows: u64, seed: u64) -> Result<Counts, NoMemory>
     requires some { 0 < rows }
     requires few { rows ≤ MOST_DEMO_ROWS }
-    ensures { IfOk result (λ counts. CountsOf rows seed rows counts.hits counts.sum) }
+    ensures { IfOk result (λ counts. CountsOf rows seed (asked_keys rows seed) counts.hits counts.sum) }
 {
     let keys = row_keys(alloc, rows, seed)?;
     let table = Hashed::build(alloc, keys.as_slice())?;

@@ -126,6 +126,11 @@ impl Dictionary {
         }
     }
 
+    /// As after the last load that it may have.
+    pub(super) fn use_up(&mut self) {
+        self.loader.use_up();
+    }
+
     /// Whether a sketch's definition is the current one.
     pub(super) fn is_current(&self, alloc: Global, sketch: &Sketch) -> Result<bool, Fail> {
         Ok(self.loader.is_current(&definition_of(alloc, sketch)?))

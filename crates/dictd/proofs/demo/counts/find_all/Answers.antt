@@ -1,12 +1,12 @@
 use Rattle.std.proofs.Common.{arith, ap, sym, subst, ◌∙◌, ◌+◌}
-use Rattle.dictd.proofs.Demos.{found-below, one-found, one-missed}
-use Rattle.dictd.specs.Demo.{Counts, row_keys}
+use Rattle.dictd.proofs.Demos.{Counted, found-below, none-counted, one-found, one-missed}
+use Rattle.dictd.specs.Demo.{row_keys}
 use Rattle.dictd.specs.declared.demo.counts.Counts as CountsOf
 use Rattle.dictd.proofs.demo.counts.find_all.Goals.{in-Some, in_default}
 use Rattle.dictd.proofs.demo.counts.find_all.Goals as goal
 
 pub loop-lookup-init : goal.loop-lookup-init
-loop-lookup-init c = (Counts.none, omega arith, omega arith)
+loop-lookup-init c = (none-counted c.args.rows c.args.seed, omega arith, omega arith)
 
 pub loop-lookup-preserved : goal.loop-lookup-preserved
 loop-lookup-preserved c = elim c.match-find.branch [
@@ -18,8 +18,8 @@ loop-lookup-preserved c = elim c.match-find.branch [
       let low = found-below c.args.rows c.args.seed c.asked_key.result w.in-Some.value finds in
       let hits = ap (λ (z : CountsOf.Counts). z.hits) w.counts-is in
       let sum = ap (λ (z : CountsOf.Counts). z.sum) w.counts-is ∙ ap (λ v. c.loop-lookup.counts.sum + v) w.from.ensures in (
-        subst (λ h. Counts c.args.rows c.args.seed (c.loop-lookup.lookup + 1) h c.match-find.counts.sum) (sym hits)
-            (subst (λ s. Counts c.args.rows c.args.seed (c.loop-lookup.lookup + 1) (c.loop-lookup.counts.hits + 1) s) (sym sum) more),
+        subst (λ h. Counted c.args.rows c.args.seed (c.loop-lookup.lookup + 1) h c.match-find.counts.sum) (sym hits)
+            (subst (λ s. Counted c.args.rows c.args.seed (c.loop-lookup.lookup + 1) (c.loop-lookup.counts.hits + 1) s) (sym sum) more),
         omega (arith, hits, c.loop-lookup.invariant.1),
         omega (arith, sum, low, c.requires.few, c.loop-lookup.invariant.2),
       )
@@ -31,7 +31,7 @@ loop-lookup-preserved c = elim c.match-find.branch [
       let same = sym w.counts-is in
       let hits = ap (λ (z : CountsOf.Counts). z.hits) w.counts-is in
       let sum = ap (λ (z : CountsOf.Counts). z.sum) w.counts-is in (
-        subst (λ (z : CountsOf.Counts). Counts c.args.rows c.args.seed (c.loop-lookup.lookup + 1) z.hits z.sum) same more,
+        subst (λ (z : CountsOf.Counts). Counted c.args.rows c.args.seed (c.loop-lookup.lookup + 1) z.hits z.sum) same more,
         omega (arith, hits, c.loop-lookup.invariant.1),
         omega (arith, sum, c.loop-lookup.invariant.2),
       )

@@ -1,8 +1,8 @@
 use Rattle.std.proofs.Common.{◌≤◌, ◌*◌, ◌^◌}
-use Rattle.dictd.specs.Demo.{Counts}
+use Rattle.dictd.proofs.Demos.{Counted}
 use Rattle.dictd.proofs.demo.counts.find_all.Given as goal
 
 abbrev pub invariant-loop-lookup : goal.invariant-loop-lookup
 invariant-loop-lookup l =
-    Counts l.rows l.seed l.lookup l.counts.hits l.counts.sum × (l.counts.hits ≤ l.lookup)
+    Counted l.rows l.seed l.lookup l.counts.hits l.counts.sum × (l.counts.hits ≤ l.lookup)
     × (l.counts.sum ≤ l.lookup * 2 ^ 32)
