@@ -7,6 +7,7 @@ pub mod LargeKeys
 pub mod Lifetimes
 pub mod LoadRuns
 pub mod Newest
+pub mod OneGiven
 pub mod OneLoad
 pub mod RowsTaken
 pub mod SoundLoads

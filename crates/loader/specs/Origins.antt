@@ -1,6 +1,6 @@
 -- The list of a dictionary's versions: what the load after it asks its child for and lays its rows over, and where each
 -- entry comes from.
-use Rattle.std.specs.Prelude.{◌≡◌, ◌≢◌, ℕ, pos, List, [], length, Option, Some, None, Result, Ok}
+use Rattle.std.specs.Prelude.{◌≡◌, ◌≢◌, ◌⊎◌, ⊤, ℕ, pos, List, [], length, Option, Some, None, Result, Ok}
 use Rattle.child_io.specs.Words.{words_since}
 use Rattle.child_io.specs.declared.child.Outcome.{Outcome}
 use Rattle.child_io.specs.declared.child.Outcome.TheVariants.{Ended}
@@ -27,6 +27,11 @@ newest list = entry list (length list)
 abbrev pub IsFormer : Option Contents → Definition → RowList → Type 0
 IsFormer None d former = former ≡ []
 IsFormer (Some e) d former = (e.definition ≡ d → former ≡ e.rows) × (e.definition ≢ d → former ≡ [])
+
+-- the newest version has the definition, or another one
+abbrev pub IsSettled : Option Contents → Definition → Type 0
+IsSettled None d = ⊤
+IsSettled (Some e) d = (e.definition ≡ d) ⊎ (e.definition ≢ d)
 
 -- since when a load asks for rows: from the moment of the newest version where that has the same definition, and else
 -- for all

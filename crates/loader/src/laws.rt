@@ -1,5 +1,6 @@
 // What holds of every load and of every output, whatever is called.
-ghost use Rattle.std.specs.Prelude.{◌≡◌, ◌<◌, ◌≤◌, ◌↔◌, ℕ, List, Some, None, Ok, Err, pos};
+ghost use Rattle.std.specs.Prelude.{◌≡◌, ◌≢◌, ◌<◌, ◌≤◌, ◌↔◌, ℕ, List, Result, Some, None, Ok, Err, pos};
+ghost use Rattle.child_io.specs.declared.child.Outcome.{Outcome};
 ghost use Rattle.child_io.specs.declared.child.Outcome.TheVariants.{Ended};
 ghost use Rattle.child_io.specs.declared.pieces.PieceEnd.{PieceEnd};
 ghost use Rattle.dict_schema.specs.declared.definition.Definition.{Definition};
@@ -16,8 +17,10 @@ ghost use Rattle.load_core.specs.declared.world.WorldDict.{WorldDict};
 ghost use Rattle.packed_rows.specs.Columns.{RowList};
 ghost use Rattle.loader.specs.Accepts.{Accepts};
 ghost use Rattle.loader.specs.Loaders.{ComesTo};
+ghost use Rattle.loader.specs.Origins.{IsSettled, Loads, newest};
 ghost use Rattle.loader.specs.Worlds.{AreVersionsOf, LeadsTo, world_definition, world_events};
 ghost use Rattle.loader.specs.declared.answers.LoadEnd.{LoadEnd};
+ghost use Rattle.loader.specs.declared.answers.LoadEnd.TheVariants.{NoMemory};
 
 /// The judge of `World::run` is what a load of its dictionary is judged by: it accepts a text exactly where the output
 /// of a child that ends with status 0 is accepted, and refuses it for exactly that cause.
@@ -39,4 +42,19 @@ pub fn loads_run_the_world()
         → ComesTo (definition_of number) now list after x.core new ending pieces end
         → LeadsTo definition_of old place
         (world_events place number (definition_of number).max_output pieces ending end) new after }
+{}
+
+/// What a load comes to is one: an outcome is judged to give one list of rows, or one cause; and where memory is found,
+/// a load behind a list whose child ended so and printed these pieces has one end, and leaves one list and one core.
+/// That the newest version has the load's definition, or another one, is told by the two definitions.
+pub fn one_load()
+    ensures accepted { (d : Definition) (former : RowList) (outcome : Outcome) (given other : Result RowList Cause)
+        → Accepts d former outcome given → Accepts d former outcome other → given ≡ other }
+    ensures judged { (d : Definition) (list : List Contents) (outcome : Outcome) (given other : Result RowList Cause)
+        → IsSettled (newest list) d → Loads d list outcome given → Loads d list outcome other → given ≡ other }
+    ensures comes { (d : Definition) (now : ℕ) (list after others : List Contents) (old new other : DictCore)
+        (ending : PieceEnd) (pieces : List (List ℕ)) (end ended : LoadEnd)
+        → IsSettled (newest list) d → end ≢ NoMemory → ended ≢ NoMemory
+        → ComesTo d now list after old new ending pieces end → ComesTo d now list others old other ending pieces ended
+        → (end ≡ ended) × (after ≡ others) × (new ≡ other) }
 {}
