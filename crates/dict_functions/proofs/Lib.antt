@@ -7,6 +7,8 @@ mod KeyTypes
 mod KeyedTexts
 mod KeysRead
 mod Listed
+pub mod OneAnswer
+mod OneKey
 mod Paired
 mod SentRows
 mod SideBySide

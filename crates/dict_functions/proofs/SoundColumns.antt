@@ -1,5 +1,5 @@
 -- What a sound definition has: a key, defaults that fit, and columns with names of their own; and a function an argument.
-use Rattle.std.proofs.Common.{◌≡◌, ◌≢◌, ◌<◌, ◌+◌, ◌++◌, ◌∷◌, ◌∙◌, ℕ, zero, suc, List, [], length, map, Some, inl, inr, refl, sym, ap, arith, subst, slice_get}
+use Rattle.std.proofs.Common.{◌≡◌, ◌≢◌, ◌<◌, ◌+◌, ◌++◌, ◌∷◌, ◌∙◌, ℕ, zero, suc, List, [], length, map, Some, inl, inr, refl, sym, ap, arith, subst, slice_get, IsTrue}
 use Rattle.std.specs.List.{range_with_len}
 use Rattle.std.proofs.lemmas.Option.{none-some, same_Some, slice_get_within}
 use Rattle.std.proofs.lemmas.Bool.{cases_lt}
@@ -12,6 +12,7 @@ use Rattle.dict_schema.specs.declared.definition.Definition.{Definition}
 use Rattle.dict_schema.specs.declared.definition.FunctionDef.{FunctionDef}
 use Rattle.dict_schema.specs.declared.fault.DefFault.TheVariants as fault
 use Rattle.dict_value.specs.Values.{FitsColumn}
+use Rattle.dict_version.specs.Keys.{NamesParent}
 use Rattle.dict_functions.specs.Asking.{IsAttributeNamed}
 use Rattle.dict_functions.proofs.Fitting.{fits}
 
@@ -94,6 +95,37 @@ module _ (d : Definition) (sound : IsSound d) where
       )
 
   -- a name is one attribute's
+  pub named-place : (name : List ℕ) (j k : ℕ) (a b : Column) → IsAttributeNamed d name j a → IsAttributeNamed d name k b → j ≡ k
+  named-place name j k a b first second = elim (cases_lt j k) [
+    | inl low ↦ absurd (named-before name j k a b low first.here second.here first.named second.named)
+    | inr high ↦ elim (cases_lt k j) [
+      | inl less ↦ absurd (named-before name k j b a less second.here first.here second.named first.named)
+      | inr not ↦ omega (arith, high, not)
+    ]
+  ]
+
+  -- one column names a parent
+  parent-before : (j k : ℕ) (a b : Column) → j < k → slice_get d.columns j ≡ Some a → slice_get d.columns k ≡ Some b
+      → IsTrue a.hierarchical → IsTrue b.hierarchical → ⊥
+  parent-before j k a b low first second is other =
+      let behind_keys = rest-clear (keys d) (ranges d ++ (attributes d ++ sources d)) behind_settings in
+      let behind_ranges = rest-clear (ranges d) (attributes d ++ sources d) behind_keys in
+      let clear = front-clear (attributes d) (sources d) behind_ranges in
+      let parents = front-clear (Numbered fault.HierarchyType (length d.columns) (IsBadParent d)) (Numbered fault.BadDefault (length d.columns) (IsBadDefault d)) clear in
+      let at = place-clear (λ (p : ℕ). Where (fault.HierarchyType (p + 1)) (IsBadParent d p)) 0 (length d.columns) k (slice_get_within d.columns k b second) parents in
+      let same : 0 + k ≡ k = omega arith in
+      let at_k : IsClear (Where (fault.HierarchyType (k + 1)) (IsBadParent d k)) = subst (λ (p : ℕ). IsClear (Where (fault.HierarchyType (p + 1)) (IsBadParent d p))) same at in
+      at_k (fault.HierarchyType (k + 1)) (refl, (b, second, other, inr (inr (j, a, low, first, is))))
+
+  pub parent-place : (j k : ℕ) → NamesParent d j → NamesParent d k → j ≡ k
+  parent-place j k p q = elim (cases_lt j k) [
+    | inl low ↦ absurd (parent-before j k p.1.0 q.1.0 low p.1.1 q.1.1 p.1.2 q.1.2)
+    | inr high ↦ elim (cases_lt k j) [
+      | inl less ↦ absurd (parent-before k j q.1.0 p.1.0 less q.1.1 p.1.1 q.1.2 p.1.2)
+      | inr not ↦ omega (arith, high, not)
+    ]
+  ]
+
   pub named-once : (name : List ℕ) (j k : ℕ) (a b : Column) → IsAttributeNamed d name j a → IsAttributeNamed d name k b → a ≡ b
   named-once name j k a b first second = elim (cases_lt j k) [
     | inl low ↦ absurd (named-before name j k a b low first.here second.here first.named second.named)

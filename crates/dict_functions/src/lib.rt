@@ -5,6 +5,7 @@
 //! reason why the lookup is refused. Where rows are fetched by key, [`keys_of`] gives the keys of a lookup or the first
 //! refusal, and [`answer_keyed`] the answer from what was fetched for them (`specs/Keyed.antt`); [`rows_of`] and
 //! [`answer_function`] do the same of a call (`specs/Calls.antt`). Only want of memory may stand in place of an answer.
+//! [`laws`] says that a version gives one answer.
 #![tactic(auto)]
 
 mod asking;
@@ -12,6 +13,7 @@ mod calls;
 mod hierarchies;
 mod keyed;
 mod keys;
+pub mod laws;
 mod lines;
 mod loaded;
 mod replies;
