@@ -5,3 +5,5 @@ pub mod Exchanging
 pub mod Running
 pub mod Turning
 pub mod Keying
+pub mod OneList
+pub mod OneSession

@@ -7,4 +7,5 @@ pub mod Floors
 pub mod Answers
 pub mod Serving
 pub mod Session
+pub mod Found
 pub mod Turns
