@@ -5,5 +5,6 @@ pub mod Exchanging
 pub mod Running
 pub mod Turning
 pub mod Keying
+pub mod OneAsk
 pub mod OneList
 pub mod OneSession
