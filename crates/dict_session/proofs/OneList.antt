@@ -170,9 +170,11 @@ same_stands x y z w a b e =
       lines = a.request.lines;
     } in
     let heard : a.heard ≡ b.heard = first_once true (y.text ++ w) a.first b.first z w a.more b.more a.heard b.heard r b.request a.of b.of in
-    let parts = parts_once true (y.text ++ w) a.first b.first z w a.more b.more r b.request in
-    (a.is ∙ ap Some heard ∙ sym b.is, ap (λ p. p.1.1.1.1) parts,
-    quit_is x.asking a.heard a.is ∙ ap is_quit heard ∙ sym (quit_is y.asking b.heard b.is))
+    let parts = parts_once true (y.text ++ w) a.first b.first z w a.more b.more r b.request in (
+      a.is ∙ ap Some heard ∙ sym b.is,
+      ap (λ p. p.1.1.1.1) parts,
+      quit_is x.asking a.heard a.is ∙ ap is_quit heard ∙ sym (quit_is y.asking b.heard b.is),
+    )
 
 -- the bytes of a list behind its first request
 bytes_cons : (x : Exchange) (xs : List Exchange) (z : List ℕ) → bytes (x ∷ xs) ++ z ≡ x.text ++ (bytes xs ++ z)

@@ -4,8 +4,8 @@ ghost use Rattle.dict_io.specs.Links.{Ends};
 ghost use Rattle.dict_session.specs.Acts.{Act, Entered};
 ghost use Rattle.dict_session.specs.Facts.{Grows};
 ghost use Rattle.dict_session.specs.Floors.{Moved};
-ghost use Rattle.dict_session.specs.Found.{AllFound, IsByInput, heards};
-ghost use Rattle.dict_session.specs.Session.{Ending, place};
+ghost use Rattle.dict_session.specs.Found.{AllFound, AllLoaded, AreOne, IsByInput, heards};
+ghost use Rattle.dict_session.specs.Session.{Ending, all_acts, place};
 ghost use Rattle.dict_session.specs.declared.session.SessionEnd.{SessionEnd};
 ghost use Rattle.dict_version.specs.Contents.{Contents};
 ghost use Rattle.load_core.specs.declared.caller.CallerCore.{CallerCore};
@@ -28,8 +28,8 @@ pub fn an_entering_keeps_floors<D: Desk>()
         → Moved D.facts s (Entered d answer ∷ []) t }
 {}
 
-/// An input that is told makes one list of requests and one end, over whatever desks: of two sessions over it that ended
-/// by it, and in which memory was found for each reply, the same was heard, request by request.
+/// An input that is told makes one list of requests and one end, over whatever desks: of two sessions over it that
+/// ended by it, and in which memory was found for each reply, the same was heard, request by request.
 pub fn one_list_heard<D: Desk>()
     ensures { (s t u v : D.State) (old new before after : Ends) (ended other : SessionEnd)
         (cores later kept left : List CallerCore) (input : List ℕ)
@@ -38,4 +38,19 @@ pub fn one_list_heard<D: Desk>()
         → old.reads.known ≡ Some input → before.reads.known ≡ Some input → IsByInput ended → IsByInput other
         → AllFound a.run.exchanges → AllFound b.run.exchanges
         → (heards a.run.exchanges ≡ heards b.run.exchanges) × (ended ≡ other) }
+{}
+
+/// Two sessions from one state over one input, at a desk of fully loaded dictionaries whose acts are one, that ended by
+/// the input and in which memory was found for each reply, end the same, write the same bytes, make the same calls with
+/// the same answers, and leave the same state.
+pub fn one_session<D: Desk>()
+    ensures { AreOne D.facts → (s t v : D.State) (old new before after : Ends) (ended other : SessionEnd)
+        (cores later kept left : List CallerCore) (input : List ℕ)
+        (a : Ending D.facts s (place [] old) ended t new cores later)
+        (b : Ending D.facts s (place [] before) other v after kept left)
+        → AllLoaded (D.facts.items s)
+        → old.reads.known ≡ Some input → before.reads.known ≡ Some input → IsByInput ended → IsByInput other
+        → AllFound a.run.exchanges → AllFound b.run.exchanges
+        → (ended ≡ other) × (a.run.out ≡ b.run.out)
+        × (all_acts a.run.exchanges ≡ all_acts b.run.exchanges) × (t ≡ v) }
 {}
