@@ -9,6 +9,11 @@ use Rattle.child_io.specs.Gathers.{outcome_of}
 use Rattle.child_io.specs.declared.child.Outcome.{Outcome}
 use Rattle.child_io.specs.declared.child.Outcome.TheVariants as outcome
 use Rattle.child_io.specs.declared.pieces.PieceEnd.{PieceEnd}
+use Rattle.child_io.specs.declared.pieces.PieceEnd.TheVariants as piece_end
+use Rattle.child_io.specs.declared.words.Since.TheVariants.{From}
+use Rattle.child_io.specs.Runs.{RunTold}
+use Rattle.child_io.specs.declared.child.Script.{Script}
+use Rattle.child_io.proofs.OneOutcome.{one-outcome}
 use Rattle.dict_schema.specs.Shapes.{shape_of}
 use Rattle.dict_schema.specs.declared.definition.Definition.{Definition}
 use Rattle.dict_schema.specs.declared.definition.Update.{Update}
@@ -38,7 +43,8 @@ use Rattle.row_text.proofs.OneDecoding.{one-decoding}
 use Rattle.rows_typed.specs.Shapes.{columns_of}
 use Rattle.loader.specs.Accepts.{Accepts, DecodesTo, HasTakenRows, IsOversized, IsUndecoded, IsUntaken, Lays, LaysTooLarge, OutputGives, Refuses, most_text, text_size, undecoded, untaken, too_large}
 use Rattle.loader.specs.Events.{core_after, load_events}
-use Rattle.loader.specs.Loaders.{ComesTo, EndsLoad, version_of}
+use Rattle.loader.specs.Loaders.{ComesTo, EndsLoad, HasNewest, IsAfter, IsAt, LoaderState, version_of}
+use Rattle.loader.specs.Timing.{after_failure, after_ok, with_lifetime}
 use Rattle.loader.specs.Origins.{IsFormer, IsSettled, Loads, newest}
 use Rattle.loader.specs.declared.answers.LoadEnd.{LoadEnd}
 use Rattle.loader.specs.declared.answers.LoadEnd.TheVariants.{Published, Failed, NoMemory}
@@ -258,3 +264,46 @@ pub comes-once : (d : Definition) (now : ℕ) (list after others : List Contents
 comes-once d now list after others old new other ending pieces end ended settled found again p q =
     let same = ends-once d now list after others (outcome_of ending (concat pieces)) end ended settled found again p.ends q.ends in
     (same.0, same.1, p.core ∙ ap (λ (e : LoadEnd). core_after old (load_events pieces e)) same.0 ∙ sym q.core)
+
+-- ---- a load of a script
+
+-- memory was found for a child where it was found for its load
+ran-found : (d : Definition) (now : ℕ) (list after : List Contents) (old new : DictCore) (ending : PieceEnd) (pieces : List (List ℕ)) (end : LoadEnd) → end ≢ NoMemory → ComesTo d now list after old new ending pieces end → ending ≢ piece_end.NoMemory
+ran-found d now list after old new ending pieces end found p e =
+    lost end found (subst (λ (x : PieceEnd). EndsLoad d now list (outcome_of x (concat pieces)) end after) e p.ends)
+  where
+    lost : (ended : LoadEnd) → ended ≢ NoMemory → EndsLoad d now list outcome.NoMemory ended after → ⊥
+    lost (Published n) some (rows, q, is, number) = q.2
+    lost (Failed why) some (q, rest) = q.2
+    lost NoMemory some q = some refl
+
+run-once : (scripts : List Script) (left right : Option (List Script)) (limit : ℕ) (ending other : PieceEnd) (pieces others : List (List ℕ)) → RunTold (Some scripts) left [] limit ending pieces → RunTold (Some scripts) right [] limit other others
+    → ending ≢ piece_end.NoMemory → other ≢ piece_end.NoMemory → (left ≡ right) × (ending ≡ other) × (pieces ≡ others)
+run-once [] left right limit ending other pieces others p q found again = (p.0 ∙ sym q.0, p.2 ∙ sym q.2, p.1 ∙ sym q.1)
+run-once (s ∷ rest) left right limit ending other pieces others p q found again =
+    let same = one-outcome s [] limit pieces others ending other (p.1.1 found) (q.1.1 again) in
+    (p.0 ∙ sym q.0, same.1, same.0)
+
+pub scripted-once : (d : Definition) (now : ℕ) (list after others : List Contents) (old new other : DictCore) (scripts : List Script) (left right : Option (List Script)) (ending last : PieceEnd) (pieces heard : List (List ℕ)) (end ended : LoadEnd) → IsSettled (newest list) d → end ≢ NoMemory → ended ≢ NoMemory
+    → RunTold (Some scripts) left [] d.max_output ending pieces → RunTold (Some scripts) right [] d.max_output last heard
+    → ComesTo d now list after old new ending pieces end → ComesTo d now list others old other last heard ended → (end ≡ ended) × (after ≡ others) × (new ≡ other) × (left ≡ right)
+scripted-once d now list after others old new other scripts left right ending last pieces heard end ended settled found again a b p q =
+    let run = run-once scripts left right d.max_output ending last pieces heard a b (ran-found d now list after old new ending pieces end found p) (ran-found d now list others old other last heard ended again q) in
+    let moved = subst (λ (e : PieceEnd). ComesTo d now list after old new e heard end) run.1 (subst (λ (ps : List (List ℕ)). ComesTo d now list after old new ending ps end) run.2 p) in
+    let same = comes-once d now list after others old new other last heard end ended settled found again moved q in
+    (same.0, same.1, same.2, run.0)
+
+-- ---- what a load leaves of the loader
+
+former-by : (n : Option Contents) (l m : LoaderState) → HasNewest l n → HasNewest m n → l.former ≡ m.former
+former-by None l m p q = p.1 ∙ sym q.1
+former-by (Some e) l m p q = p.2 ∙ sym q.2
+
+pub left-once : (d : Definition) (now : ℕ) (end : LoadEnd) (old new other : LoaderState) (list : List Contents) → new.core ≡ other.core → IsAfter d now end old new → IsAfter d now end old other → IsAt new list → IsAt other list → new ≡ other
+left-once d now (Published n) old new other list core p q at there =
+    let former : new.former ≡ other.former = former-by (newest list) new other at.newest there.newest in
+    p ∙ (λ i. record old { definition = d; core = core i; timing = after_ok (with_lifetime old.timing d.lifetime) now; since = From now; former = former i }) ∙ sym q
+left-once d now (Failed why) old new other list core p q at there =
+    p ∙ (λ i. record old { core = core i; timing = after_failure old.timing now }) ∙ sym q
+left-once d now NoMemory old new other list core p q at there =
+    p ∙ (λ i. record old { core = core i; timing = after_failure old.timing now }) ∙ sym q

@@ -1,7 +1,9 @@
 // What holds of every load and of every output, whatever is called.
-ghost use Rattle.std.specs.Prelude.{◌≡◌, ◌≢◌, ◌<◌, ◌≤◌, ◌↔◌, ℕ, List, Result, Some, None, Ok, Err, pos};
+ghost use Rattle.std.specs.Prelude.{◌≡◌, ◌≢◌, ◌<◌, ◌≤◌, ◌↔◌, ℕ, List, [], Option, Result, Some, None, Ok, Err, pos};
+ghost use Rattle.child_io.specs.Runs.{RunTold};
 ghost use Rattle.child_io.specs.declared.child.Outcome.{Outcome};
 ghost use Rattle.child_io.specs.declared.child.Outcome.TheVariants.{Ended};
+ghost use Rattle.child_io.specs.declared.child.Script.{Script};
 ghost use Rattle.child_io.specs.declared.pieces.PieceEnd.{PieceEnd};
 ghost use Rattle.dict_schema.specs.declared.definition.Definition.{Definition};
 ghost use Rattle.dict_value.specs.declared.fault.Cause.{Cause};
@@ -16,7 +18,7 @@ ghost use Rattle.load_core.specs.declared.world.World.{World};
 ghost use Rattle.load_core.specs.declared.world.WorldDict.{WorldDict};
 ghost use Rattle.packed_rows.specs.Columns.{RowList};
 ghost use Rattle.loader.specs.Accepts.{Accepts};
-ghost use Rattle.loader.specs.Loaders.{ComesTo};
+ghost use Rattle.loader.specs.Loaders.{ComesTo, IsAfter, IsAt, LoaderState};
 ghost use Rattle.loader.specs.Origins.{IsSettled, Loads, newest};
 ghost use Rattle.loader.specs.Worlds.{AreVersionsOf, LeadsTo, world_definition, world_events};
 ghost use Rattle.loader.specs.declared.answers.LoadEnd.{LoadEnd};
@@ -46,7 +48,9 @@ pub fn loads_run_the_world()
 
 /// What a load comes to is one: an outcome is judged to give one list of rows, or one cause; and where memory is found,
 /// a load behind a list whose child ended so and printed these pieces has one end, and leaves one list and one core.
-/// That the newest version has the load's definition, or another one, is told by the two definitions.
+/// So it is where the children of both take their scripts from one list, whatever else is told, and both leave the same
+/// of that list; and what a loader keeps is one. That the newest version has the load's definition, or another one, is
+/// told by the two definitions.
 pub fn one_load()
     ensures accepted { (d : Definition) (former : RowList) (outcome : Outcome) (given other : Result RowList Cause)
         → Accepts d former outcome given → Accepts d former outcome other → given ≡ other }
@@ -57,4 +61,15 @@ pub fn one_load()
         → IsSettled (newest list) d → end ≢ NoMemory → ended ≢ NoMemory
         → ComesTo d now list after old new ending pieces end → ComesTo d now list others old other ending pieces ended
         → (end ≡ ended) × (after ≡ others) × (new ≡ other) }
+    ensures scripted { (d : Definition) (now : ℕ) (list after others : List Contents) (old new other : DictCore)
+        (scripts : List Script) (left right : Option (List Script)) (ending last : PieceEnd)
+        (pieces heard : List (List ℕ)) (end ended : LoadEnd)
+        → IsSettled (newest list) d → end ≢ NoMemory → ended ≢ NoMemory
+        → RunTold (Some scripts) left [] d.max_output ending pieces
+        → RunTold (Some scripts) right [] d.max_output last heard
+        → ComesTo d now list after old new ending pieces end → ComesTo d now list others old other last heard ended
+        → (end ≡ ended) × (after ≡ others) × (new ≡ other) × (left ≡ right) }
+    ensures leaves { (d : Definition) (now : ℕ) (end : LoadEnd) (old new other : LoaderState) (list : List Contents)
+        → new.core ≡ other.core → IsAfter d now end old new → IsAfter d now end old other → IsAt new list
+        → IsAt other list → new ≡ other }
 {}
