@@ -1,5 +1,5 @@
 -- How the values of a row are written in a reply.
-use Rattle.std.specs.Prelude.{◌≡◌, ℕ, List, Some, slice_get}
+use Rattle.std.specs.Prelude.{◌≡◌, ◌<◌, ℕ, List, Some, length, slice_get}
 use Rattle.dict_schema.specs.Shapes.{shape_of}
 use Rattle.dict_schema.specs.declared.definition.Definition.{Definition}
 use Rattle.dict_schema.specs.declared.definition.ShapeColumn.{ShapeColumn}
@@ -14,3 +14,12 @@ pub record IsPrintedAt (d : Definition) (rows : List (List Value)) (place column
   pub column_is : slice_get (shape_of d) column ≡ Some of_column
   pub value_is : cell_at rows place column ≡ Some value
   pub text_is : text ≡ printed of_column.ty.base value
+
+-- the value stands in a column of some row
+abbrev pub StandsIn : List (List Value) → ℕ → Value → Type 0
+StandsIn rows column value = (place : ℕ) × (place < length rows) × (cell_at rows place column ≡ Some value)
+
+-- the escaped text of the value in each row where it stands in the column
+abbrev pub IsPrintedIn : Definition → List (List Value) → ℕ → Value → List ℕ → Type 0
+IsPrintedIn d rows column value text =
+    (place : ℕ) → place < length rows → cell_at rows place column ≡ Some value → IsPrintedAt d rows place column text

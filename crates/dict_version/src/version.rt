@@ -13,9 +13,10 @@ ghost use Rattle.dict_version.specs.Contents.{contents};
 ghost use Rattle.dict_version.specs.Kept.{HasHierarchy, IsHierarchyOf};
 ghost use Rattle.dict_version.specs.Keys.{NamesParent};
 ghost use Rattle.dict_version.specs.Lookups.{Finds, TakesFew};
-ghost use Rattle.dict_version.specs.Printed.{IsPrintedAt};
+ghost use Rattle.dict_version.specs.Printed.{IsPrintedAt, IsPrintedIn, StandsIn};
 ghost use Rattle.dict_version.specs.Rows.{IsRefusedFor, LayoutTakes, TakesRows};
 ghost use Rattle.dict_version.specs.declared.fault.LayoutFault.TheVariants as fault;
+ghost use Rattle.packed_rows.specs.Cells.{meaning};
 ghost use Rattle.packed_rows.specs.Columns.{cell_at};
 ghost use Rattle.packed_rows.specs.Packs.{stored_size};
 
@@ -26,7 +27,7 @@ use crate::print::print_cell;
 use dict_schema::{Definition, cell_type, shape};
 use dict_value::{AttrType, Bytes, Counter, ListOf, NoMemory, Row, Value};
 use hier::Hier;
-use packed_rows::{Rows, value_of};
+use packed_rows::{Cell, Rows, value_of};
 use std::alloc::Global;
 use std::marker::Model;
 
@@ -177,6 +178,28 @@ impl<S: Counter> Version<S> {
     {
         let cell = self.rows.cell(place as usize, column as usize);
         value_of(alloc, &cell)
+    }
+
+    /// The value in a row and a column of the shape, from 0, where it lies.
+    pub fn cell(&self, place: u32, column: u32) -> Cell<'_>
+        requires place { place < length self.now.rows }
+        requires column { column < length (shape_of self.now.definition) }
+        ensures { cell_at self.now.rows place column ≡ Some (meaning result) }
+    {
+        self.rows.cell(place as usize, column as usize)
+    }
+
+    /// Appends the escaped text of a cell that stands in a column of the shape, from 0, and `\N` for NULL. After
+    /// `NoMemory` nothing has changed.
+    pub fn write_found(&self, cell: &Cell<'_>, column: u32, out: &mut Bytes) -> Result<(), NoMemory>
+        requires column { column < length (shape_of self.now.definition) }
+        requires stands { StandsIn self.now.rows column (meaning cell.now) }
+        ensures ok { OnOk result ((text : List ℕ)
+            × IsPrintedIn self.now.definition self.now.rows column (meaning cell.now) text
+            × (out.new ≡ out.old ++ text)) }
+        ensures err { OnErr result (out.new ≡ out.old) }
+    {
+        print_cell(&self.types.as_slice()[column as usize], cell, out)
     }
 
     /// Appends the escaped text of the value in a row and a column of the shape, from 0, and `\N` for NULL. The cell
