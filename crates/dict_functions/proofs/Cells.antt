@@ -10,7 +10,7 @@ use Rattle.dict_version.proofs.AttributePlaces.{attribute_there}
 use Rattle.dict_version.specs.Contents.{Contents}
 use Rattle.dict_version.specs.Keys.{attribute_place}
 use Rattle.dict_version.specs.Lookups.{Finds}
-use Rattle.dict_version.specs.Printed.{IsPrintedAt}
+use Rattle.dict_version.specs.Printed.{IsPrintedAt, IsPrintedIn}
 use Rattle.dict_version.specs.declared.key.Key.{Key}
 use Rattle.wire_text.specs.declared.request.Asked.{Asked}
 use Rattle.wire_text.specs.declared.request.Verb.{Verb}
@@ -20,7 +20,11 @@ use Rattle.dict_functions.specs.Asking.{asks_attribute}
 use Rattle.dict_functions.specs.Keys.{ReadsKey}
 use Rattle.dict_functions.specs.Values.{IsAttributeText, IsHasText, IsText, IsTextBy}
 use Rattle.dict_functions.specs.declared.asking.Attribute.{Attribute}
-use Rattle.dict_functions.specs.steps.Lines.{HasCellText, IsAttributeOf}
+use Rattle.dict_functions.specs.steps.Lines.{HasCell, HasCellText, HasLine, HasTextOf, IsAttributeOf, IsCellFor, MayStand}
+use Rattle.packed_rows.specs.Cells.{meaning}
+use Rattle.packed_rows.specs.declared.cell.Cell.{Cell}
+use Rattle.wire_text.specs.declared.reply.Line.{Line}
+use Rattle.dict_version.specs.declared.key.Key.TheVariants as key
 
 -- an attribute stands in each row
 pub attribute-within : (d : Definition) → IsSound d → (q : Asked) (attribute : Attribute) → IsAttributeOf d q attribute
@@ -50,6 +54,36 @@ module _ (c : Contents) (q : Asked) (attribute : Attribute) where
     named = has.1;
     is = has.2;
   }
+
+  -- the text of what stands in, where no cell was found
+  pub no-cell-text : IsAttributeOf c.definition q attribute → (column : ℕ) (text : List ℕ) → text ≡ attribute.missing
+      → HasTextOf c q attribute column None text
+  no-cell-text of column text e None has = missing-text of text e
+  no-cell-text of column text e (Some row) has = absurd has
+
+  -- the text of a cell that was found
+  pub cell-text : IsAttributeOf c.definition q attribute → (column : ℕ) (cell : Cell) (text : List ℕ)
+      → column ≡ attribute_place c.definition attribute.place → IsPrintedIn c.definition c.rows column (meaning cell) text
+      → HasTextOf c q attribute column (Some cell) text
+  cell-text of column cell text is printed None has = absurd has
+  cell-text of column cell text is printed (Some row) has =
+      row-text of row text (subst (λ k. IsPrintedAt c.definition c.rows row k text) is (printed row has.0 has.1))
+
+  -- the line of the cell that a number finds
+  pub number-line : (column : ℕ) (fields : List Field) (n : ℕ) (cell : Option Cell) (line : Line) → ReadsKey c.definition fields (key.Simple n)
+      → IsCellFor c column n cell → (line.moment ≡ 0) × HasTextOf c q attribute column cell line.text → HasLine c q fields line
+  number-line column fields n cell line reads of_number text =
+      (text.0, attribute-text fields line.text (key.Simple n) of_number.0 reads of_number.1 (text.1 of_number.0 of_number.2))
+
+-- a cell that was found stands in a row
+has-stands : (c : Contents) (column : ℕ) (found : Option ℕ) (cell : Option Cell) → HasCell c column found cell → MayStand c column cell
+has-stands c column None None has = tt
+has-stands c column None (Some cell) has = absurd has
+has-stands c column (Some row) None has = absurd has
+has-stands c column (Some row) (Some cell) has = (row, has.0, has.1)
+
+pub cell-stands : (c : Contents) (column n : ℕ) (cell : Option Cell) → IsCellFor c column n cell → MayStand c column cell
+cell-stands c column n cell is = has-stands c column is.0 cell is.2
 
 -- a verb that asks for an attribute is answered by its text
 attribute-by : (v : Verb) (c : Contents) (q : Asked) (fields : List Field) (text : List ℕ) → IsTrue (asks_attribute v)

@@ -9,6 +9,7 @@ mod KeysRead
 mod Listed
 pub mod OneAnswer
 mod OneKey
+mod NumberedKeys
 mod Paired
 mod SentRows
 mod SideBySide

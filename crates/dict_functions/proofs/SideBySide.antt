@@ -122,3 +122,28 @@ zip-weaker P Q to [] [] zip = tt
 zip-weaker P Q to [] (y ∷ ys) zip = absurd zip
 zip-weaker P Q to (x ∷ xs) [] zip = absurd zip
 zip-weaker P Q to (x ∷ xs) (y ∷ ys) zip = (to x y zip.0, zip-weaker P Q to xs ys zip.1)
+
+-- what holds of each two, by way of a list between
+pub zip-through : {A B C : Type 0} (P : A → B → Type 0) (Q : B → C → Type 0) (R : A → C → Type 0)
+    → ((x : A) (y : B) (z : C) → P x y → Q y z → R x z) → (xs : List A) (ys : List B) (zs : List C) → AllZip P xs ys
+    → AllZip Q ys zs → AllZip R xs zs
+zip-through P Q R to [] [] [] first second = tt
+zip-through P Q R to [] [] (z ∷ zs) first second = absurd second
+zip-through P Q R to [] (y ∷ ys) zs first second = absurd first
+zip-through P Q R to (x ∷ xs) [] zs first second = absurd first
+zip-through P Q R to (x ∷ xs) (y ∷ ys) [] first second = absurd second
+zip-through P Q R to (x ∷ xs) (y ∷ ys) (z ∷ zs) first second =
+    (to x y z first.0 second.0, zip-through P Q R to xs ys zs first.1 second.1)
+
+second-at : {A B : Type 0} (P : A → B → Type 0) (Q : B → Type 0) → ((x : A) (y : B) → P x y → Q y) → (xs : List A) (ys : List B)
+    → (i : ℕ) (d : B) → AllZip P xs ys → i < length ys → Q (get_or ys i d)
+second-at P Q to [] [] i d zip low = absurd (omega (arith, low))
+second-at P Q to [] (y ∷ ys) i d zip low = absurd zip
+second-at P Q to (x ∷ xs) [] i d zip low = absurd zip
+second-at P Q to (x ∷ xs) (y ∷ ys) zero d zip low = to x y zip.0
+second-at P Q to (x ∷ xs) (y ∷ ys) (suc i) d zip low = second-at P Q to xs ys i d zip.1 (omega (arith, low))
+
+-- what holds of the second of each two
+pub zip-second : {A B : Type 0} (P : A → B → Type 0) (Q : B → Type 0) → ((x : A) (y : B) → P x y → Q y) → (xs : List A) (ys : List B)
+    → AllZip P xs ys → All Q ys
+zip-second P Q to xs ys zip = λ i d low. second-at P Q to xs ys i d zip low

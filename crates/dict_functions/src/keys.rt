@@ -5,6 +5,7 @@ ghost use Rattle.dict_value.specs.declared.value.Field.TheVariants.{Text};
 ghost use Rattle.dict_value.specs.declared.value.Value.{Value as ValueOf};
 ghost use Rattle.dict_version.specs.Keys.{end_in};
 ghost use Rattle.dict_version.specs.declared.key.Key.{Key as KeyOf};
+ghost use Rattle.dict_functions.specs.steps.Lines.{is_by_number};
 ghost use Rattle.dict_functions.specs.Keys.{ReadsAddress, ReadsAs, ReadsKey, ReadsNumber, ReadsNumbers, ReadsPoint, ReadsRanged, point_type};
 ghost use Rattle.range_layout.specs.declared.ends.End.TheVariants.{At};
 ghost use Rattle.dict_value.specs.Values.{FitsColumn};
@@ -13,8 +14,8 @@ ghost use Rattle.std.specs.List.{AllZip};
 use crate::lines::{LineFault, value_fault};
 use dict_schema::{Definition, RangeOf, column_at};
 use dict_value::{
-    Address, AttrType, ColType, Field, Fields, ListOf, NoMemory, Value, read_address, read_text,
-    read_value,
+    Address, AttrType, ColType, Field, Fields, ListOf, NoMemory, Value, read_address, read_digits,
+    read_text, read_value,
 };
 use dict_version::{Key, LookupBy, lookup_by};
 use std::alloc::Global;
@@ -67,6 +68,9 @@ pub(crate) fn read_number(alloc: Global, field: &Field) -> Option<u64>
     let Field::Text(text) = field else {
         return None;
     };
+    if let Some(number) = read_digits(text.as_slice()) {
+        return Some(number);
+    }
     match read_text(alloc, ColType::UInt64, text.as_slice()) {
         Ok(Value::U(number)) => Some(number),
         _ => None,
@@ -74,17 +78,24 @@ pub(crate) fn read_number(alloc: Global, field: &Field) -> Option<u64>
 }
 
 /// The number that is the whole of a line.
-fn only_number(alloc: Global, fields: &[Field]) -> Result<Key, LineFault>
-    ensures ok { IfOk result (λ key. (n : ℕ) × (key ≡ Key.Simple n) × ReadsNumbers fields.now (n ∷ [])) }
+pub(crate) fn only_number(alloc: Global, fields: &[Field]) -> Result<u64, LineFault>
+    ensures ok { IfOk result (λ n. ReadsNumbers fields.now (n ∷ [])) }
     ensures bad { result ≡ Err LineFault.Unread → (n : ℕ) → ¬ (ReadsNumbers fields.now (n ∷ [])) }
 {
     if fields.len() != 1 {
         return Err(LineFault::Unread);
     }
     match read_number(alloc, &fields[0]) {
-        Some(number) => Ok(Key::Simple(number)),
+        Some(number) => Ok(number),
         None => Err(LineFault::Unread),
     }
+}
+
+/// Whether a key is one number.
+pub(crate) fn is_by_number(by: LookupBy) -> bool
+    ensures { result ≡ is_by_number by }
+{
+    matches!(by, LookupBy::SmallNumber(_) | LookupBy::Number)
 }
 
 /// The type of the ends of the range, NULL aside.
@@ -192,7 +203,10 @@ pub(crate) fn read_key(
     ensures bad { result ≡ Err LineFault.Unread → (key : KeyOf) → ¬ (ReadsKey d.now fields.now key) }
 {
     match lookup_by(&d.layout) {
-        LookupBy::SmallNumber(_) | LookupBy::Number => only_number(alloc, fields),
+        LookupBy::SmallNumber(_) | LookupBy::Number => match only_number(alloc, fields) {
+            Ok(number) => Ok(Key::Simple(number)),
+            Err(fault) => Err(fault),
+        },
         LookupBy::KeyList => match read_values(alloc, types, fields) {
             Ok(values) => Ok(Key::List(values)),
             Err(fault) => Err(fault),

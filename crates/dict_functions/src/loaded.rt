@@ -1,25 +1,32 @@
 // Answers from one version.
-ghost use Rattle.std.specs.Prelude.{◌≡◌, ◌<◌, ◌^◌, Err, IfOk, IfSome, IsTrue, false, length};
+ghost use Rattle.std.specs.Prelude.{◌≡◌, ◌<◌, ◌^◌, ℕ, All, Err, IfOk, IfSome, IsTrue, false, length, true, ⊤};
+ghost use Rattle.std.specs.List.{AllZip};
 ghost use Rattle.cache_layout.specs.Fetching.{key_types};
+ghost use Rattle.dict_schema.specs.Shapes.{shape_of};
 ghost use Rattle.dict_schema.specs.Sound.{IsSound};
 ghost use Rattle.dict_value.specs.Memory.{UnlessNoMemory};
 ghost use Rattle.dict_version.specs.Keys.{attribute_place};
+ghost use Rattle.dict_version.specs.Lookups.{lookup_by};
+ghost use Rattle.dict_version.specs.declared.key.Key.TheVariants as key;
 ghost use Rattle.dict_functions.specs.Answers.{AnswersSeen};
 ghost use Rattle.dict_functions.specs.Asking.{IsLookup, asks_attribute};
+ghost use Rattle.dict_functions.specs.Keys.{IsFirstWithout, ReadsKey};
 ghost use Rattle.dict_functions.specs.Refusals.{HasKey};
 ghost use Rattle.dict_functions.specs.Values.{IsAttributeText, IsHasText};
 ghost use Rattle.wire_text.specs.declared.reply.Reply.TheVariants.{Refused};
 ghost use Rattle.wire_text.specs.declared.reply.ReplyFault.TheVariants as fault;
 ghost use Rattle.wire_text.specs.declared.request.Verb.TheVariants as verb;
-ghost use Rattle.dict_functions.specs.steps.Lines.{Answered, HasCellText, IsAttributeOf};
+ghost use Rattle.dict_functions.specs.steps.Lines.{Answered, HasCellText, HasLine, HasTextOf, IsAttributeOf, IsCellFor};
+ghost use Rattle.dict_functions.specs.steps.Lines.{MayStand, is_by_number};
 
 use crate::asking::{Attribute, asks_hierarchy, attribute_of, key_fault};
 use crate::hierarchies::hierarchy_lines;
-use crate::keys::{key_types, read_key};
-use crate::lines::{LineFault, OfLine, each_line};
+use crate::keys::{is_by_number, key_types, only_number, read_key};
+use crate::lines::{LineFault, LinesFault, OfLine, each_line};
 use crate::replies::{flag, reply_of};
 use dict_value::{AttrType, Bytes, Fields, ListOf, NoMemory, Uncounted};
-use dict_version::{Version, attribute_place};
+use dict_version::{Key, Version, attribute_place, lookup_by};
+use packed_rows::Cell;
 use std::alloc::Global;
 use version_slot::Seen;
 use wire_text::{Asked, Line, Mark, Reply, ReplyFault, Verb};
@@ -53,6 +60,24 @@ impl AttributeOf<'_> {
             Err(_) => Err(NoMemory),
         }
     }
+
+    /// The same by the cell of the row that was found.
+    fn text_in(&self, alloc: Global, found: &Option<Cell<'_>>) -> Result<Bytes, NoMemory>
+        requires stands { MayStand self.now.version.now self.now.cell found.now }
+        requires of { IsAttributeOf self.now.version.now.definition self.now.q.now self.now.attribute.now }
+        requires cell { self.now.cell ≡ attribute_place self.now.version.now.definition self.now.attribute.now.place }
+        requires sound { IsSound self.now.version.now.definition }
+        ensures { IfOk result (HasTextOf self.now.version.now self.now.q.now self.now.attribute.now self.now.cell found.now) }
+    {
+        match found {
+            Some(cell) => {
+                let mut text = Bytes::new(alloc);
+                self.version.write_found(cell, self.cell, &mut text)?;
+                Ok(text)
+            }
+            None => Bytes::copy_of(alloc, self.attribute.missing.as_slice()),
+        }
+    }
 }
 
 impl OfLine for AttributeOf<'_> {
@@ -66,7 +91,7 @@ impl OfLine for AttributeOf<'_> {
 
     ghost reads = { λ of fields. HasKey of.version.now.definition false fields };
 
-    ghost makes = { λ of fields line. (line.moment ≡ 0) × IsAttributeText of.version.now of.q.now fields line.text };
+    ghost makes = { λ of fields line. HasLine of.version.now of.q.now fields line };
 
     fn make(&self, alloc: Global, fields: &Fields) -> Result<Line, LineFault> {
         let key = match read_key(
@@ -121,6 +146,140 @@ impl OfLine for HasOf<'_> {
     }
 }
 
+/// What reads the number that each line is.
+#[derive(Clone, Copy)]
+struct NumberOf<'a> {
+    version: &'a Version<Uncounted>,
+}
+
+impl OfLine for NumberOf<'_> {
+    type Item = Fields;
+
+    type Made = u64;
+
+    ghost takes = { λ of fields. is_by_number (lookup_by of.version.now.definition.layout) ≡ true };
+
+    ghost reads = { λ of fields. HasKey of.version.now.definition false fields };
+
+    ghost makes = { λ of fields number. ReadsKey of.version.now.definition fields (key.Simple number) };
+
+    fn make(&self, alloc: Global, fields: &Fields) -> Result<u64, LineFault> {
+        only_number(alloc, fields.as_slice())
+    }
+}
+
+/// What finds the cell of the row that has each number.
+#[derive(Clone, Copy)]
+struct CellOf<'a> {
+    version: &'a Version<Uncounted>,
+    cell: u32,
+}
+
+impl<'a> OfLine for CellOf<'a> {
+    type Item = u64;
+
+    type Made = Option<Cell<'a>>;
+
+    ghost takes = { λ of number. of.cell < length (shape_of of.version.now.definition) };
+
+    ghost reads = { λ of number. ⊤ };
+
+    ghost makes = { λ of number cell. IsCellFor of.version.now of.cell number cell };
+
+    fn make(&self, _alloc: Global, number: &u64) -> Result<Option<Cell<'a>>, LineFault> {
+        let Some(row) = self.version.find(&Key::Simple(*number), &mut Uncounted) else {
+            return Ok(None);
+        };
+        Ok(Some(self.version.cell(row, self.cell)))
+    }
+}
+
+/// What writes the text of each cell.
+#[derive(Clone, Copy)]
+struct TextOf<'a> {
+    of: AttributeOf<'a>,
+}
+
+impl<'a> OfLine for TextOf<'a> {
+    type Item = Option<Cell<'a>>;
+
+    type Made = Line;
+
+    ghost takes = { λ it cell. IsAttributeOf it.of.version.now.definition it.of.q.now it.of.attribute.now
+        × (it.of.cell ≡ attribute_place it.of.version.now.definition it.of.attribute.now.place)
+        × IsSound it.of.version.now.definition × MayStand it.of.version.now it.of.cell cell };
+
+    ghost reads = { λ it cell. ⊤ };
+
+    ghost makes = { λ it cell line. (line.moment ≡ 0)
+        × HasTextOf it.of.version.now it.of.q.now it.of.attribute.now it.of.cell cell line.text };
+
+    fn make(&self, alloc: Global, cell: &Option<Cell<'a>>) -> Result<Line, LineFault> {
+        match self.of.text_in(alloc, cell) {
+            Ok(text) => Ok(Line { moment: 0, text }),
+            Err(_) => Err(LineFault::NoMemory),
+        }
+    }
+}
+
+/// The lines of a block of numbers, in three passes: the numbers of all lines, the cells that they find, and the texts
+/// of these. So the processor waits for the cells of several keys at once.
+fn numbered_lines<'a>(
+    alloc: Global,
+    of: &AttributeOf<'a>,
+    lines: &ListOf<Fields>,
+) -> Result<ListOf<Line>, LinesFault>
+    requires numbered { is_by_number (lookup_by of.now.version.now.definition.layout) ≡ true }
+    requires of { IsAttributeOf of.now.version.now.definition of.now.q.now of.now.attribute.now }
+    requires cell { of.now.cell ≡ attribute_place of.now.version.now.definition of.now.attribute.now.place }
+    requires sound { IsSound of.now.version.now.definition }
+    requires few { length lines.now < 2 ^ 32 }
+    ensures read { IfOk result (λ _. All (HasKey of.now.version.now.definition false) lines.now) }
+    ensures made { IfOk result (AllZip (HasLine of.now.version.now of.now.q.now) lines.now) }
+    ensures unread { (n : ℕ) → result ≡ Err (LinesFault.Unread n)
+        → IsFirstWithout (HasKey of.now.version.now.definition false) lines.now n }
+{
+    let number_of = NumberOf {
+        version: of.version,
+    };
+    let numbers = match each_line(alloc, &number_of, lines) {
+        Ok(numbers) => numbers,
+        Err(fault) => return Err(fault),
+    };
+    let cell_of = CellOf {
+        version: of.version,
+        cell: of.cell,
+    };
+    let Ok(cells) = each_line(alloc, &cell_of, &numbers) else {
+        return Err(LinesFault::NoMemory);
+    };
+    match each_line(alloc, &TextOf { of: *of }, &cells) {
+        Ok(made) => Ok(made),
+        Err(_) => Err(LinesFault::NoMemory),
+    }
+}
+
+/// The lines that an attribute is asked for by: those of a block of numbers in passes, and others one by one.
+fn lines_by(
+    alloc: Global,
+    of: &AttributeOf<'_>,
+    lines: &ListOf<Fields>,
+) -> Result<ListOf<Line>, LinesFault>
+    requires of { IsAttributeOf of.now.version.now.definition of.now.q.now of.now.attribute.now }
+    requires cell { of.now.cell ≡ attribute_place of.now.version.now.definition of.now.attribute.now.place }
+    requires types { of.now.types.now ≡ key_types of.now.version.now.definition }
+    requires few { length lines.now < 2 ^ 32 }
+    ensures read { IfOk result (λ _. All (HasKey of.now.version.now.definition false) lines.now) }
+    ensures made { IfOk result (AllZip (HasLine of.now.version.now of.now.q.now) lines.now) }
+    ensures unread { (n : ℕ) → result ≡ Err (LinesFault.Unread n)
+        → IsFirstWithout (HasKey of.now.version.now.definition false) lines.now n }
+{
+    if lines.len() > 1 && is_by_number(lookup_by(&of.version.definition().layout)) {
+        return numbered_lines(alloc, of, lines);
+    }
+    each_line(alloc, of, lines)
+}
+
 /// The lines of a lookup of an attribute.
 fn attribute_lines(
     alloc: Global,
@@ -146,7 +305,7 @@ fn attribute_lines(
         cell: attribute_place(d, attribute.place),
         types: types.as_slice(),
     };
-    match each_line(alloc, &of, &q.lines) {
+    match lines_by(alloc, &of, &q.lines) {
         Ok(lines) => Ok(lines),
         Err(fault) => Err(key_fault(fault)),
     }

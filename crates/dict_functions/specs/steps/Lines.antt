@@ -1,5 +1,6 @@
 -- What is made of the lines of a lookup, and what their faults mean.
-use Rattle.std.specs.Prelude.{◌≡◌, ◌∷◌, [], ℕ, zero, suc, List, Option, Some, Result, MatchResult, decimal, slice_get}
+use Rattle.std.specs.Prelude.{◌≡◌, ◌∷◌, ◌<◌, [], ℕ, zero, suc, List, Bool, true, false, Option, Some, None, IfSome, Result, MatchResult, ⊤}
+use Rattle.std.specs.Prelude.{decimal, length, slice_get}
 use Rattle.std.specs.List.{AllZip}
 use Rattle.dict_schema.specs.Sound.{IsSound}
 use Rattle.dict_schema.specs.declared.definition.Column.{Column}
@@ -7,9 +8,18 @@ use Rattle.dict_schema.specs.declared.definition.Definition.{Definition}
 use Rattle.dict_value.specs.declared.letters.TheConstants.{COMMA}
 use Rattle.dict_value.specs.declared.value.BadValue.{BadValue}
 use Rattle.dict_value.specs.declared.value.BadValue.TheVariants as bad
+use Rattle.dict_value.specs.declared.value.Field.{Field}
 use Rattle.dict_value.specs.declared.value.Value.{Value}
 use Rattle.dict_version.specs.Contents.{Contents}
 use Rattle.dict_version.specs.Keys.{NamesParent, numbers_of, parents_of}
+use Rattle.dict_version.specs.Lookups.{Finds}
+use Rattle.dict_version.specs.Printed.{StandsIn as StandsInColumn}
+use Rattle.dict_version.specs.declared.key.Key.TheVariants as key
+use Rattle.dict_version.specs.declared.lookup.LookupBy.{LookupBy}
+use Rattle.dict_version.specs.declared.lookup.LookupBy.TheVariants as by
+use Rattle.packed_rows.specs.Cells.{meaning}
+use Rattle.packed_rows.specs.Columns.{cell_at}
+use Rattle.packed_rows.specs.declared.cell.Cell.{Cell}
 use Rattle.row_text.specs.Written.{printed}
 use Rattle.wire_text.specs.declared.reply.Line.{Line}
 use Rattle.wire_text.specs.declared.reply.ReplyFault.{ReplyFault}
@@ -21,7 +31,7 @@ use Rattle.dict_functions.specs.Answers.{IsLoadedLine}
 use Rattle.dict_functions.specs.Asking.{IsAttributeNamed}
 use Rattle.dict_functions.specs.Keyed.{fetched_place}
 use Rattle.dict_functions.specs.Refusals.{IsFitting, IsRefusal}
-use Rattle.dict_functions.specs.Values.{AnswersVerb, IsCellText, StandsIn}
+use Rattle.dict_functions.specs.Values.{AnswersVerb, IsAttributeText, IsCellText, StandsIn}
 use Rattle.dict_functions.specs.declared.asking.Attribute.{Attribute}
 use Rattle.dict_functions.specs.declared.lines.LineFault.{LineFault}
 use Rattle.dict_functions.specs.declared.lines.LineFault.TheVariants as one
@@ -98,3 +108,33 @@ rows_fault unread rows.NoMemory = fault.NoMemory
 abbrev pub default_fault : LineFault → ReplyFault
 default_fault one.Unread = fault.BadArgument 0
 default_fault one.NoMemory = fault.NoMemory
+
+-- whether a key is one number
+abbrev pub is_by_number : LookupBy → Bool
+is_by_number (by.SmallNumber most) = true
+is_by_number by.Number = true
+is_by_number _ = false
+
+-- the cell in a column of a row that was found, or none where none was
+abbrev pub HasCell : Contents → ℕ → Option ℕ → Option Cell → Type 0
+HasCell c column None None = ⊤
+HasCell c column (Some row) (Some cell) = (row < length c.rows) × (cell_at c.rows row column ≡ Some (meaning cell))
+HasCell c column _ _ = ⊥
+
+-- the cell in a column of the row that a number finds, or none where it finds no row
+abbrev pub IsCellFor : Contents → ℕ → ℕ → Option Cell → Type 0
+IsCellFor c column number cell =
+    (found : Option ℕ) × Finds c.definition c.rows (key.Simple number) found × HasCell c column found cell
+
+-- the cell, if any, stands in the column of some row
+abbrev pub MayStand : Contents → ℕ → Option Cell → Type 0
+MayStand c column cell = IfSome cell (λ x. StandsInColumn c.rows column (meaning x))
+
+-- the text of the attribute for each row whose cell this is, or for none
+abbrev pub HasTextOf : Contents → Asked → Attribute → ℕ → Option Cell → List ℕ → Type 0
+HasTextOf c q attribute column cell text =
+    (found : Option ℕ) → HasCell c column found cell → HasCellText c q attribute found text
+
+-- the line of an attribute; it tells no moment
+abbrev pub HasLine : Contents → Asked → List Field → Line → Type 0
+HasLine c q fields line = (line.moment ≡ 0) × IsAttributeText c q fields line.text

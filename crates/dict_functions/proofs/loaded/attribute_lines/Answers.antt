@@ -9,7 +9,7 @@ use Rattle.dict_functions.specs.Answers.{IsLoadedLine}
 use Rattle.dict_functions.specs.Keys.{IsFirstWithout}
 use Rattle.dict_functions.specs.Refusals.{HasKey, IsRefusal, IsUnfitting}
 use Rattle.dict_functions.specs.Values.{IsAttributeText}
-use Rattle.dict_functions.specs.steps.Lines.{IsAttributeOf}
+use Rattle.dict_functions.specs.steps.Lines.{HasLine, IsAttributeOf}
 use Rattle.dict_functions.proofs.Cells.{attribute-is}
 use Rattle.dict_functions.proofs.SideBySide.{zip-weaker}
 use Rattle.dict_functions.proofs.Unfitting.{attribute-fits, key-refused, no-hierarchy-asked}
@@ -25,15 +25,15 @@ attribute_place-requires-clause-within c =
     let of = c.in-Ok.ensures (λ e. cc) in
     slice_get_within c.definition-d.result.now.columns c.in-Ok.attribute.place of.column of.named.here
 
-pub returns-in-Ok-each_line : goal.returns-in-Ok-each_line
-returns-in-Ok-each_line c = λ other.
+pub returns-in-Ok-lines_by : goal.returns-in-Ok-lines_by
+returns-in-Ok-lines_by c = λ other.
     let v = c.args.version.now in
     let q = c.args.q.now in
     let of = subst (λ (d : Definition). IsAttributeOf d q c.in-Ok.attribute) c.definition-d.ensures.is (c.in-Ok.ensures (λ e. cc)) in (
       attribute-fits v.definition q c.definition-d.ensures.sound c.requires.verb c.in-Ok.attribute.place of.column of.value of.named of.stands,
-      zip-weaker (λ (fields : List Field) (line : Line). (line.moment ≡ 0) × IsAttributeText v q fields line.text) (IsLoadedLine v q)
+      zip-weaker (HasLine v q) (IsLoadedLine v q)
           (λ fields line made. record { moment = made.0; text = attribute-is v q fields line.text c.requires.verb made.1 })
-          q.lines c.in-Ok-each_line.lines c.in-Ok-each_line.ensures.made,
+          q.lines c.in-Ok-lines_by.lines c.in-Ok-lines_by.ensures.made,
     )
 
 pub returns : goal.returns
@@ -42,8 +42,8 @@ returns c = λ other.
     let q = c.args.q.now in
     let of = subst (λ (d : Definition). IsAttributeOf d q c.in-Ok.attribute) c.definition-d.ensures.is (c.in-Ok.ensures (λ e. cc)) in
     subst (λ (f : ReplyFault). IsRefusal d q f) (sym c.key_fault.ensures)
-    (key-refused d q c.in-Err-each_line.fault
+    (key-refused d q c.in-Err-lines_by.fault
     (attribute-fits d q c.definition-d.ensures.sound c.requires.verb c.in-Ok.attribute.place of.column of.value of.named of.stands)
     (λ n e. subst (λ (b : Bool). IsFirstWithout (HasKey d b) q.lines n) (sym (no-hierarchy-asked q.verb c.requires.verb))
-    (c.each_line.ensures.unread n (c.in-Err-each_line.is ∙ ap Err e)))
+    (c.lines_by.ensures.unread n (c.in-Err-lines_by.is ∙ ap Err e)))
     (λ e. other (ap Err (c.key_fault.ensures ∙ e))))
