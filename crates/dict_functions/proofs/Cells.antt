@@ -76,14 +76,11 @@ module _ (c : Contents) (q : Asked) (attribute : Attribute) where
       (text.0, attribute-text fields line.text (key.Simple n) of_number.0 reads of_number.1 (text.1 of_number.0 of_number.2))
 
 -- a cell that was found stands in a row
-has-stands : (c : Contents) (column : ℕ) (found : Option ℕ) (cell : Option Cell) → HasCell c column found cell → MayStand c column cell
+pub has-stands : (c : Contents) (column : ℕ) (found : Option ℕ) (cell : Option Cell) → HasCell c column found cell → MayStand c column cell
 has-stands c column None None has = tt
 has-stands c column None (Some cell) has = absurd has
 has-stands c column (Some row) None has = absurd has
 has-stands c column (Some row) (Some cell) has = (row, has.0, has.1)
-
-pub cell-stands : (c : Contents) (column n : ℕ) (cell : Option Cell) → IsCellFor c column n cell → MayStand c column cell
-cell-stands c column n cell is = has-stands c column is.0 cell is.2
 
 -- a verb that asks for an attribute is answered by its text
 attribute-by : (v : Verb) (c : Contents) (q : Asked) (fields : List Field) (text : List ℕ) → IsTrue (asks_attribute v)

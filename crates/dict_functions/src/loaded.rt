@@ -16,7 +16,7 @@ ghost use Rattle.dict_functions.specs.Values.{IsAttributeText, IsHasText};
 ghost use Rattle.wire_text.specs.declared.reply.Reply.TheVariants.{Refused};
 ghost use Rattle.wire_text.specs.declared.reply.ReplyFault.TheVariants as fault;
 ghost use Rattle.wire_text.specs.declared.request.Verb.TheVariants as verb;
-ghost use Rattle.dict_functions.specs.steps.Lines.{Answered, HasCellText, HasLine, HasTextOf, IsAttributeOf, IsCellFor};
+ghost use Rattle.dict_functions.specs.steps.Lines.{Answered, HasCell, HasCellText, HasLine, HasTextOf, IsAttributeOf, IsRowFor};
 ghost use Rattle.dict_functions.specs.steps.Lines.{MayStand, is_by_number};
 
 use crate::asking::{Attribute, asks_hierarchy, attribute_of, key_fault};
@@ -168,7 +168,29 @@ impl OfLine for NumberOf<'_> {
     }
 }
 
-/// What finds the cell of the row that has each number.
+/// What finds the row of each number.
+#[derive(Clone, Copy)]
+struct RowOf<'a> {
+    version: &'a Version<Uncounted>,
+}
+
+impl OfLine for RowOf<'_> {
+    type Item = u64;
+
+    type Made = Option<u32>;
+
+    ghost takes = { λ of number. ⊤ };
+
+    ghost reads = { λ of number. ⊤ };
+
+    ghost makes = { λ of number found. IsRowFor of.version.now number found };
+
+    fn make(&self, _alloc: Global, number: &u64) -> Result<Option<u32>, LineFault> {
+        Ok(self.version.find(&Key::Simple(*number), &mut Uncounted))
+    }
+}
+
+/// What reads the cell in each row that was found.
 #[derive(Clone, Copy)]
 struct CellOf<'a> {
     version: &'a Version<Uncounted>,
@@ -176,21 +198,22 @@ struct CellOf<'a> {
 }
 
 impl<'a> OfLine for CellOf<'a> {
-    type Item = u64;
+    type Item = Option<u32>;
 
     type Made = Option<Cell<'a>>;
 
-    ghost takes = { λ of number. of.cell < length (shape_of of.version.now.definition) };
+    ghost takes = { λ of found. (of.cell < length (shape_of of.version.now.definition))
+        × IfSome found (λ row. row < length of.version.now.rows) };
 
-    ghost reads = { λ of number. ⊤ };
+    ghost reads = { λ of found. ⊤ };
 
-    ghost makes = { λ of number cell. IsCellFor of.version.now of.cell number cell };
+    ghost makes = { λ of found cell. HasCell of.version.now of.cell found cell };
 
-    fn make(&self, _alloc: Global, number: &u64) -> Result<Option<Cell<'a>>, LineFault> {
-        let Some(row) = self.version.find(&Key::Simple(*number), &mut Uncounted) else {
-            return Ok(None);
-        };
-        Ok(Some(self.version.cell(row, self.cell)))
+    fn make(&self, _alloc: Global, found: &Option<u32>) -> Result<Option<Cell<'a>>, LineFault> {
+        match *found {
+            Some(row) => Ok(Some(self.version.cell(row, self.cell))),
+            None => Ok(None),
+        }
     }
 }
 
@@ -222,8 +245,8 @@ impl<'a> OfLine for TextOf<'a> {
     }
 }
 
-/// The lines of a block of numbers, in three passes: the numbers of all lines, the cells that they find, and the texts
-/// of these. So the processor waits for the cells of several keys at once.
+/// The lines of a block of numbers, in four passes: the numbers of all lines, the rows that they find, the cells in
+/// these, and their texts. So the processor waits for the rows and the cells of several keys at once.
 fn numbered_lines<'a>(
     alloc: Global,
     of: &AttributeOf<'a>,
@@ -246,11 +269,17 @@ fn numbered_lines<'a>(
         Ok(numbers) => numbers,
         Err(fault) => return Err(fault),
     };
+    let row_of = RowOf {
+        version: of.version,
+    };
+    let Ok(rows) = each_line(alloc, &row_of, &numbers) else {
+        return Err(LinesFault::NoMemory);
+    };
     let cell_of = CellOf {
         version: of.version,
         cell: of.cell,
     };
-    let Ok(cells) = each_line(alloc, &cell_of, &numbers) else {
+    let Ok(cells) = each_line(alloc, &cell_of, &rows) else {
         return Err(LinesFault::NoMemory);
     };
     match each_line(alloc, &TextOf { of: *of }, &cells) {

@@ -121,6 +121,11 @@ HasCell c column None None = ⊤
 HasCell c column (Some row) (Some cell) = (row < length c.rows) × (cell_at c.rows row column ≡ Some (meaning cell))
 HasCell c column _ _ = ⊥
 
+-- the row that a number finds, if any
+abbrev pub IsRowFor : Contents → ℕ → Option ℕ → Type 0
+IsRowFor c number found =
+    Finds c.definition c.rows (key.Simple number) found × IfSome found (λ row. row < length c.rows)
+
 -- the cell in a column of the row that a number finds, or none where it finds no row
 abbrev pub IsCellFor : Contents → ℕ → ℕ → Option Cell → Type 0
 IsCellFor c column number cell =
