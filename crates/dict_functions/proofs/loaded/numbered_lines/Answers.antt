@@ -18,8 +18,12 @@ returns-in-Err-clause-unread c = λ n e.
 pub each_line-requires-2-clause-few : goal.each_line-requires-2-clause-few
 each_line-requires-2-clause-few c =
     let v = c.args.of.now.version.now in
-    omega (arith, c.requires.few, AllZip-long (λ (fields : List Field) (n : ℕ). ReadsKey v.definition fields (key.Simple n))
-    c.args.lines.now c.in-Ok.numbers c.in-Ok.ensures.made)
+    omega (
+      arith,
+      c.requires.few,
+      AllZip-long (λ (fields : List Field) (n : ℕ). ReadsKey v.definition fields (key.Simple n))
+          c.args.lines.now c.in-Ok.numbers c.in-Ok.ensures.made,
+    )
 
 pub each_line-requires-3-clause-takes : goal.each_line-requires-3-clause-takes
 each_line-requires-3-clause-takes c = λ k d low.
@@ -34,9 +38,13 @@ pub each_line-requires-3-clause-few : goal.each_line-requires-3-clause-few
 each_line-requires-3-clause-few c =
     let it = c.args.of.now in
     let v = it.version.now in
-    omega (arith, c.requires.few, AllZip-long (λ (fields : List Field) (n : ℕ). ReadsKey v.definition fields (key.Simple n))
-    c.args.lines.now c.in-Ok.numbers c.in-Ok.ensures.made,
-    AllZip-long (IsRowFor v) c.in-Ok.numbers c.in-Ok-each_line.rows c.in-Ok-each_line.ensures.made)
+    omega (
+      arith,
+      c.requires.few,
+      AllZip-long (λ (fields : List Field) (n : ℕ). ReadsKey v.definition fields (key.Simple n))
+          c.args.lines.now c.in-Ok.numbers c.in-Ok.ensures.made,
+      AllZip-long (IsRowFor v) c.in-Ok.numbers c.in-Ok-each_line.rows c.in-Ok-each_line.ensures.made,
+    )
 
 pub each_line-requires-4-clause-takes : goal.each_line-requires-4-clause-takes
 each_line-requires-4-clause-takes c = λ k d low.
@@ -53,10 +61,14 @@ pub each_line-requires-4-clause-few : goal.each_line-requires-4-clause-few
 each_line-requires-4-clause-few c =
     let it = c.args.of.now in
     let v = it.version.now in
-    omega (arith, c.requires.few, AllZip-long (λ (fields : List Field) (n : ℕ). ReadsKey v.definition fields (key.Simple n))
-    c.args.lines.now c.in-Ok.numbers c.in-Ok.ensures.made,
-    AllZip-long (IsRowFor v) c.in-Ok.numbers c.in-Ok-each_line.rows c.in-Ok-each_line.ensures.made,
-    AllZip-long (HasCell v it.cell) c.in-Ok-each_line.rows c.in-Ok-each_line-2.cells c.in-Ok-each_line-2.ensures.made)
+    omega (
+      arith,
+      c.requires.few,
+      AllZip-long (λ (fields : List Field) (n : ℕ). ReadsKey v.definition fields (key.Simple n))
+          c.args.lines.now c.in-Ok.numbers c.in-Ok.ensures.made,
+      AllZip-long (IsRowFor v) c.in-Ok.numbers c.in-Ok-each_line.rows c.in-Ok-each_line.ensures.made,
+      AllZip-long (HasCell v it.cell) c.in-Ok-each_line.rows c.in-Ok-each_line-2.cells c.in-Ok-each_line-2.ensures.made,
+    )
 
 pub returns-in-Ok-each_line-3-clause-made : goal.returns-in-Ok-each_line-3-clause-made
 returns-in-Ok-each_line-3-clause-made c =
@@ -66,13 +78,13 @@ returns-in-Ok-each_line-3-clause-made c =
     let attribute = it.attribute.now in
     let made = c.in-Ok-each_line-3.made in
     let cells = zip-through (IsRowFor v) (HasCell v it.cell) (IsCellFor v it.cell)
-        (λ n found cell is has. (found, is.0, has)) c.in-Ok.numbers c.in-Ok-each_line.rows c.in-Ok-each_line-2.cells
-        c.in-Ok-each_line.ensures.made c.in-Ok-each_line-2.ensures.made in
+    (λ n found cell is has. (found, is.0, has)) c.in-Ok.numbers c.in-Ok-each_line.rows c.in-Ok-each_line-2.cells
+    c.in-Ok-each_line.ensures.made c.in-Ok-each_line-2.ensures.made in
     let texts = zip-through (IsCellFor v it.cell)
-        (λ (cell : Option Cell) (line : Line). (line.moment ≡ 0) × HasTextOf v q attribute it.cell cell line.text)
-        (λ (n : ℕ) (line : Line). (cell : Option Cell) × IsCellFor v it.cell n cell × ((line.moment ≡ 0) × HasTextOf v q attribute it.cell cell line.text))
-        (λ n cell line is text. (cell, is, text)) c.in-Ok.numbers c.in-Ok-each_line-2.cells made
-        cells c.in-Ok-each_line-3.ensures.made in
+    (λ (cell : Option Cell) (line : Line). (line.moment ≡ 0) × HasTextOf v q attribute it.cell cell line.text)
+    (λ (n : ℕ) (line : Line). (cell : Option Cell) × IsCellFor v it.cell n cell × ((line.moment ≡ 0) × HasTextOf v q attribute it.cell cell line.text))
+    (λ n cell line is text. (cell, is, text)) c.in-Ok.numbers c.in-Ok-each_line-2.cells made
+    cells c.in-Ok-each_line-3.ensures.made in
     zip-through (λ (fields : List Field) (n : ℕ). ReadsKey v.definition fields (key.Simple n))
     (λ (n : ℕ) (line : Line). (cell : Option Cell) × IsCellFor v it.cell n cell × ((line.moment ≡ 0) × HasTextOf v q attribute it.cell cell line.text))
     (HasLine v q)

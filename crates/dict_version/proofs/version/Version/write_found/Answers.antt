@@ -22,6 +22,10 @@ returns-clause-ok g c =
     let same : it.rows ≡ c.args.self.now.rows = ap (λ (v : Contents). v.rows) c.self.view_is in
     let ok = rw c.as_slice.ensures at c.print_cell.ensures.ok in
     on_ok_weaker c.print_cell.result
-    (λ e. (_, (λ place low here. kept-printed it.definition it.rows it.moment it.types it.index it.hier c.self.invariant
-    c.args.self.now c.self.view_is place c.args.column low c.requires.column _ (meaning c.args.cell.now)
-    (ap (λ rows. cell_at rows place c.args.column) same ∙ here)), e)) ok
+    (λ e. (
+      _,
+      (λ place low here. kept-printed it.definition it.rows it.moment it.types it.index it.hier c.self.invariant
+          c.args.self.now c.self.view_is place c.args.column low c.requires.column _ (meaning c.args.cell.now)
+          (ap (λ rows. cell_at rows place c.args.column) same ∙ here)),
+      e,
+    )) ok
