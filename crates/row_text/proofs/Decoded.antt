@@ -65,102 +65,43 @@ all-lines by row (b ∷ text) opened = elim (cases_eq b LINE_FEED) [
   | inr other ↦ longer by row b text (all-lines by (row ++ b ∷ []) text (open-push by row b opened (λ e. absurd (other e))))
 ]
 
--- the first line of a text, and the lines behind it
-pub lines-first : (by : CutRule) (text line rest : List ℕ) (later : List (List ℕ)) → text ≢ [] → BeginsWithLine by text line rest → AreLines by rest later → AreLines by text (line ∷ later)
-lines-first by text line rest later some (inl (whole, is)) are = subst (λ (t : List ℕ). AreLines by t (line ∷ later)) (sym is) (lines-whole by line rest later whole are)
-lines-first by [] line rest later some (inr (opened, is, none)) are = absurd (some refl)
-lines-first by (b ∷ text) line rest later some (inr (opened, is, none)) are =
-    let ends : later ≡ [] = one-lines by [] later [] (subst (λ (t : List ℕ). AreLines by t later) none are) (lines-nil by) in
-    subst (λ (ls : List (List ℕ)). AreLines by (b ∷ text) ls) (ap (λ (l : List ℕ). l ∷ []) is ∙ ap (λ (ls : List (List ℕ)). line ∷ ls) (sym ends))
-    (lines-open by (b ∷ text) (subst (IsOpen by) (sym is) opened))
+-- lists that go together, one behind the other
+zip-append : (R : List ℕ → List Value → Type 0) (lines later : List (List ℕ)) (rows others : List (List Value)) → AllZip R lines rows → AllZip R later others → AllZip R (lines ++ later) (rows ++ others)
+zip-append R [] later [] others typed behind = behind
+zip-append R [] later (r ∷ rows) others typed behind = absurd typed
+zip-append R (l ∷ lines) later [] others typed behind = absurd typed
+zip-append R (l ∷ lines) later (r ∷ rows) others typed behind = (typed.0, zip-append R lines later rows others typed.1 behind)
 
--- the lines before what is left are so many, and have these rows
-pub record Done (format : Format) (columns : List Reader) (text left : List ℕ) (number : ℕ) (rows : List (List Value)) : Type 0 where
-  pub lines : List (List ℕ)
-  pub typed : AreTypedRows format columns lines rows
-  pub counted : number ≡ length lines
-  pub onward : (later : List (List ℕ)) → AreLines (rule_of format) left later → AreLines (rule_of format) text (lines ++ later)
-
--- nothing is decoded
-pub done-none : (format : Format) (columns : List Reader) (text : List ℕ) → Done format columns text text 0 []
-done-none format columns text = record { lines = []; typed = tt; counted = refl; onward = λ later are. are }
-
--- one more line and its row
-typed-row : (R : List ℕ → List Value → Type 0) (lines : List (List ℕ)) (rows : List (List Value)) (line : List ℕ) (row : List Value) → AllZip R lines rows → R line row → AllZip R (lines ++ line ∷ []) (rows ++ row ∷ [])
-typed-row R [] [] line row typed here = (here, tt)
-typed-row R [] (r ∷ rows) line row typed here = absurd typed
-typed-row R (l ∷ lines) [] line row typed here = absurd typed
-typed-row R (l ∷ lines) (r ∷ rows) line row typed here = (typed.0, typed-row R lines rows line row typed.1 here)
-
-filter-push : (format : Format) (lines : List (List ℕ)) (line : List ℕ) → filter (is_row_line format) (lines ++ line ∷ []) ≡ filter (is_row_line format) lines ++ filter (is_row_line format) (line ∷ [])
-filter-push format [] line = refl
-filter-push format (l ∷ lines) line = elim (cases_Bool (is_row_line format l)) [
-  | inl yes' ↦ rw yes' (ap (λ (ls : List (List ℕ)). l ∷ ls) (filter-push format lines line))
-  | inr no' ↦ rw no' (filter-push format lines line)
+filter-append : (format : Format) (lines later : List (List ℕ)) → filter (is_row_line format) (lines ++ later) ≡ filter (is_row_line format) lines ++ filter (is_row_line format) later
+filter-append format [] later = refl
+filter-append format (l ∷ lines) later = elim (cases_Bool (is_row_line format l)) [
+  | inl yes' ↦ rw yes' (ap (λ (ls : List (List ℕ)). l ∷ ls) (filter-append format lines later))
+  | inr no' ↦ rw no' (filter-append format lines later)
 ]
 
+-- more lines and their rows
+pub typed-all : (format : Format) (columns : List Reader) (lines later : List (List ℕ)) (rows others : List (List Value)) → AreTypedRows format columns lines rows → AreTypedRows format columns later others
+    → AreTypedRows format columns (lines ++ later) (rows ++ others)
+typed-all format columns lines later rows others typed behind =
+    rw (filter-append format lines later) (zip-append (IsTypedRow format columns) (filter (is_row_line format) lines) (filter (is_row_line format) later) rows others typed behind)
+
+-- one more line and its row
 pub typed-more : (format : Format) (columns : List Reader) (lines : List (List ℕ)) (line : List ℕ) (rows new : List (List Value)) → AreTypedRows format columns lines rows → AddsLine format columns line rows new → AreTypedRows format columns (lines ++ line ∷ []) new
 typed-more format columns lines line rows new typed (inl (blank, same)) =
     let kept : filter (is_row_line format) (line ∷ []) ≡ [] = rw blank refl in
-    rw (filter-push format lines line, kept, append-nil (filter (is_row_line format) lines), same) typed
+    rw (filter-append format lines (line ∷ []), kept, append-nil (filter (is_row_line format) lines), same) typed
 typed-more format columns lines line rows new typed (inr (is, few, (values, row, same))) =
     let kept : filter (is_row_line format) (line ∷ []) ≡ line ∷ [] = rw is refl in
-    rw (filter-push format lines line, kept, same) (typed-row (IsTypedRow format columns) (filter (is_row_line format) lines) rows line values typed row)
-
-pub done-more : (format : Format) (columns : List Reader) (text left line rest : List ℕ) (number : ℕ) (rows new : List (List Value)) → left ≢ [] → BeginsWithLine (rule_of format) left line rest
-    → Done format columns text left number rows → AddsLine format columns line rows new → Done format columns text rest (number + 1) new
-done-more format columns text left line rest number rows new some begins d adds = record {
-  lines = d.lines ++ line ∷ [];
-  typed = typed-more format columns d.lines line rows new d.typed adds;
-  counted = omega (arith, d.counted, length-append d.lines (line ∷ []));
-  onward = λ later are. subst (AreLines (rule_of format) text) (sym (append_assoc d.lines (line ∷ []) later)) (d.onward (line ∷ later) (lines-first (rule_of format) left line rest later some begins are));
-}
-
--- the next line stands behind what is decoded
-pub done-behind : (format : Format) (columns : List Reader) (text left line rest : List ℕ) (number : ℕ) (rows : List (List Value)) → left ≢ [] → BeginsWithLine (rule_of format) left line rest
-    → Done format columns text left number rows → is_row_line format line ≡ true → (stands : StandsBehind format columns text rows line) × (number + 1 ≡ length stands.before + 1)
-done-behind format columns text left line rest number rows some begins d is =
-    let later = all-lines (rule_of format) [] rest (open-nil (rule_of format)) in (
-      record {
-        before = d.lines;
-        after = later.0;
-        cut = d.onward (line ∷ later.0) (lines-first (rule_of format) left line rest later.0 some begins later.1);
-        typed = d.typed;
-        is_row = is;
-      },
-      ap (λ (n : ℕ). n + 1) d.counted,
-    )
-
--- nothing is left
-pub done-all : (format : Format) (columns : List Reader) (text left : List ℕ) (number : ℕ) (rows : List (List Value)) → left ≡ [] → Done format columns text left number rows
-    → (lines : List (List ℕ)) × AreLines (rule_of format) text lines × AreTypedRows format columns lines rows
-done-all format columns text left number rows none d =
-    (d.lines, subst (AreLines (rule_of format) text) (append-nil d.lines) (d.onward [] (subst (λ (t : List ℕ). AreLines (rule_of format) t []) (sym none) (lines-nil (rule_of format)))), d.typed)
+    rw (filter-append format lines (line ∷ []), kept, same) (zip-append (IsTypedRow format columns) (filter (is_row_line format) lines) (line ∷ []) rows (values ∷ []) typed (row, tt))
 
 -- this holds, unless the answer is want of memory
 abbrev pub Unless : {A : Type 0} → Result A DecodeFault → Type 0 → Type 0
 Unless answer P = UnlessNoMemory (Err decode.NoMemory) answer P
 
--- the fault of the next line is that of the text
-pub done-fault : (format : Format) (columns : List Reader) (text left line rest : List ℕ) (number : ℕ) (rows new : List (List Value)) → left ≢ [] → BeginsWithLine (rule_of format) left line rest
-    → Done format columns text left number rows → (fault : DecodeFault)
-    → Unless {A = Unit {0}} (Err fault) (LineBrings format columns line (number + 1) rows (Err fault) new)
-    → Unless {A = List (List Value)} (Err fault) (Decodes format columns text (Err fault))
-done-fault format columns text left line rest number rows new some begins d (decode.Bad bad) told _ =
-    let found = told (λ e. cc) in
-    let behind = done-behind format columns text left line rest number rows some begins d found.0 in
-    record { rows = rows; line = line; stands = behind.0; room = found.1; numbered = found.2 ∙ behind.1; reason = found.3 }
-done-fault format columns text left line rest number rows new some begins d decode.TooMany told _ =
-    let found = told (λ e. cc) in
-    record { rows = rows; line = line; stands = (done-behind format columns text left line rest number rows some begins d found.0).0; full = found.1 }
-done-fault format columns text left line rest number rows new some begins d decode.NoMemory told want = absurd (want refl)
-
 -- an answer that hands this fault on
-pub handed-on : (format : Format) (columns : List Reader) (text : List ℕ) (answer : Result (List (List Value)) DecodeFault) (fault : DecodeFault) → IsErrAnd answer (λ told. told ≡ fault)
-    → Unless {A = List (List Value)} (Err fault) (Decodes format columns text (Err fault)) → Unless answer (Decodes format columns text answer)
-handed-on format columns text (Ok rows) fault same found = absurd same
-handed-on format columns text (Err told) fault same found =
-    subst (λ (x : DecodeFault). Unless {A = List (List Value)} (Err x) (Decodes format columns text (Err x))) (sym same) found
+pub handed-on : {A : Type 0} → (P : Result A DecodeFault → Type 0) (answer : Result A DecodeFault) (fault : DecodeFault) → IsErrAnd answer (λ told. told ≡ fault) → Unless {A = A} (Err fault) (P (Err fault)) → Unless answer (P answer)
+handed-on P (Ok rows) fault same found = absurd same
+handed-on {A} P (Err told) fault same found = subst (λ (x : DecodeFault). Unless {A = A} (Err x) (P (Err x))) (sym same) found
 
 -- the fault of a line
 pub line-unread : (format : Format) (columns : List Reader) (line : List ℕ) (fault : LineFault) → UnlessNoMemory {A = Result (List Field) LineFault} (Err of_line.NoMemory) (Err fault) (LineGives format line (Err fault))
@@ -183,12 +124,6 @@ pub line-fault : (format : Format) (columns : List Reader) (line : List ℕ) (nu
     → of_row.Unless fault (LineDecodes format columns line (Err fault)) → Unless {A = Unit {0}} (Err (fault_at number fault)) (LineBrings format columns line number old (Err (fault_at number fault)) new)
 line-fault format columns line number old new is room (row.Bad column reason) found _ = (is, room, refl, found (λ e. cc))
 line-fault format columns line number old new is room row.NoMemory found want = absurd (want refl)
-
--- what stands behind the first line is shorter
-pub rest-shorter : (by : CutRule) (text line rest : List ℕ) → text ≢ [] → BeginsWithLine by text line rest → length rest < length text
-rest-shorter by text line rest some (inl (whole, is)) = omega (arith, ap length is, length-append (ended line) rest, length-append line (LINE_FEED ∷ []))
-rest-shorter by [] line rest some (inr (opened, is, none)) = absurd (some refl)
-rest-shorter by (b ∷ text) line rest some (inr (opened, is, none)) = omega (arith, ap length none)
 
 -- one more line brings one row more at most, and none to a full list
 pub rows-few : (format : Format) (columns : List Reader) (line : List ℕ) (old new : List (List Value)) → length old ≤ MOST_ROWS → AddsLine format columns line old new → length new ≤ MOST_ROWS

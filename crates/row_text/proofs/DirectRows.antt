@@ -37,11 +37,8 @@ adds-length columns field old new place adds size =
 -- the row that is taken, in the decoding of its text
 
 pub row-begins : (format : Format) (columns : List Reader) (text : List ℕ) (size : ℕ) (old new : Building) → (takes : TakesRow format columns text size old new)
-    → BeginsWithLine (rule_of format) text takes.has.line (suffix text size)
-row-begins format columns text size old new takes = inl (
-  takes.has.whole,
-  takes.has.joined ∙ ap (λ (t : List ℕ). ended takes.has.line ++ t) (sym (take_rest text size)),
-)
+    → BeginsWithLine (rule_of format) text takes.has.line size
+row-begins format columns text size old new takes = (takes.has.whole, takes.has.within, takes.has.joined)
 
 pub row-adds : (format : Format) (columns : List Reader) (text : List ℕ) (size : ℕ) (old new : Building) → (takes : TakesRow format columns text size old new)
     → AddsLine format columns takes.has.line old.rows new.rows

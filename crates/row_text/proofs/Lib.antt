@@ -2,6 +2,7 @@ mod CutSteps
 mod Readings
 mod Decoded
 mod Pieces
+pub mod Growing
 pub mod OneCutting
 mod MarkLists
 mod Escapes

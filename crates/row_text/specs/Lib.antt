@@ -6,5 +6,6 @@ pub mod Held
 pub mod Tables
 pub mod Written
 pub mod Decoding
+pub mod Growing
 pub mod Fitting
 pub mod steps

@@ -1,5 +1,5 @@
 // Rows cut out of a text that comes in pieces.
-ghost use Rattle.std.specs.Prelude.{◌≡◌, ◌↔◌, ◌∷◌, ◌++◌, [], ℕ, List, IfOk, IsTrue, OnOk};
+ghost use Rattle.std.specs.Prelude.{◌≡◌, ◌↔◌, ◌∷◌, ◌++◌, [], ℕ, List, IfNone, IfOk, IfSome, IsTrue, OnOk};
 ghost use Rattle.std.specs.List.{concat};
 ghost use Rattle.row_text.specs.Cutting.{AreRows, Cuts, IsOpen, keeps_open};
 ghost use Rattle.row_text.specs.Tables.{AreLines, last_line};
@@ -119,14 +119,14 @@ fn row_end(rule: CutRule, before: bool, piece: &[u8]) -> Found
     Found::Inside(inside)
 }
 
-/// The first line of a text, without its line feed, and what stands behind it.
-pub(crate) fn first_line(rule: CutRule, text: &[u8]) -> (&[u8], &[u8])
-    ensures { BeginsWithLine rule text.now result.0.now result.1.now }
+/// The first line of a text, where it has its line feed: the line without it, and how many bytes it has with it.
+pub(crate) fn whole_line(rule: CutRule, text: &[u8]) -> Option<(&[u8], usize)>
+    ensures none { IfNone result (IsOpen rule text.now) }
+    ensures line { IfSome result (λ found. BeginsWithLine rule text.now found.0.now found.1) }
 {
-    let mut cutter = Cutter::new(rule);
-    match cutter.feed(text) {
-        Cut::Row(count) => (&text[..count - 1], &text[count..]),
-        Cut::More => (text, &[]),
+    match Cutter::new(rule).feed(text) {
+        Cut::Row(size) => Some((&text[..size - 1], size)),
+        Cut::More => None,
     }
 }
 

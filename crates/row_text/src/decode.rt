@@ -1,16 +1,17 @@
 // Whole texts, decoded row by row into values.
-ghost use Rattle.std.specs.Prelude.{◌≡◌, ◌<◌, ◌≤◌, ◌++◌, ◌∷◌, [], true, Err, List, length, IfOk, IfNone, IfSome, OnErr, OnOk, OnSome};
+ghost use Rattle.std.specs.Prelude.{◌≡◌, ◌<◌, ◌≤◌, ◌+◌, ◌++◌, ◌∷◌, [], true, Err, List, length, IfOk, IfNone, IfSome, OnErr, OnOk, OnSome};
 ghost use Rattle.std.specs.List.{AllZip};
 ghost use Rattle.dict_value.specs.Values.{FitsColumn};
 ghost use Rattle.dict_value.specs.declared.value.Format.{Format};
 ghost use Rattle.dict_value.specs.Memory.{UnlessNoMemory};
 ghost use Rattle.row_text.specs.Fitting.{AllFit};
 ghost use Rattle.row_text.specs.Decoding.{Decodes, LineGives, is_row_line, rule_of};
-ghost use Rattle.row_text.specs.steps.DecodeSteps.{LineBrings, LineDecodes, TakeAll, column_fault, fault_at, row_fault};
+ghost use Rattle.row_text.specs.Growing.{Adds, AddsWhole};
+ghost use Rattle.row_text.specs.steps.DecodeSteps.{FirstBrings, LineBrings, LineDecodes, TakeAll, column_fault, fault_at, row_fault};
 
 use crate::columns::Columns;
 use crate::csv_row::{is_blank_line, read_csv_row};
-use crate::cutter::{CutRule, first_line};
+use crate::cutter::{CutRule, whole_line};
 use crate::direct::take_row;
 use crate::tab_row::read_fields;
 use dict_value::letters::LINE_FEED;
@@ -44,24 +45,107 @@ pub fn decode_rows<C: Columns>(
     ensures { UnlessNoMemory (Err DecodeFault.NoMemory) result
         (Decodes format (C.columns columns.now) text.now result) }
 {
-    let rule = rule_for(format);
     let mut rows = no_rows(alloc, columns, text)?;
-    let mut scratch = Bytes::new(alloc);
-    let mut number = 0;
-    let mut left = text;
-    while !left.is_empty() {
-        number += 1;
-        let rest = match take_row(alloc, format, columns, left, &mut scratch, &mut rows) {
-            Some(size) => &left[size..],
-            None => {
-                let (line, rest) = first_line(rule, left);
-                take_line(alloc, format, columns, line, number, &mut rows)?;
-                rest
-            }
-        };
-        left = rest;
-    }
+    decode_more(alloc, format, columns, text, 0, &mut rows)?;
     Ok(rows.finish())
+}
+
+/// Adds the typed rows of a text to those of the lines before it, which are so many. After a fault, what
+/// the rows are isn't told.
+pub fn decode_more<C: Columns>(
+    alloc: Global,
+    format: Format,
+    columns: &C,
+    text: &[u8],
+    lines_before: u32,
+    rows: &mut RowsBuilder,
+) -> Result<(), DecodeFault>
+    requires bytes { lines_before + length text.now ≤ u32.MAX }
+    requires columns { length (C.columns columns.now) ≤ u32.MAX }
+    requires fit { AllFit (C.columns columns.now) (C.types columns.now) }
+    requires types { rows.old.types ≡ C.types columns.now }
+    requires none { rows.old.open_row ≡ [] }
+    requires few { length rows.old.rows ≤ MOST_ROWS }
+    ensures adds { UnlessNoMemory (Err DecodeFault.NoMemory) result
+        (Adds format (C.columns columns.now) lines_before rows.old.rows text.now result rows.new.rows) }
+    ensures types { OnOk result (rows.new.types ≡ rows.old.types) }
+    ensures none { OnOk result (rows.new.open_row ≡ []) }
+{
+    let mut lines = lines_before;
+    let size = decode_whole(alloc, format, columns, text, &mut lines, rows)?;
+    if size == text.len() {
+        return Ok(());
+    }
+    take_line(alloc, format, columns, &text[size..], lines + 1, rows)
+}
+
+/// Adds the typed rows of those lines of a text that have their line feed to those of the lines before it,
+/// and counts these lines. The size is that of these lines; what stands behind is less than one more. After
+/// a fault, what the rows are isn't told.
+pub fn decode_whole<C: Columns>(
+    alloc: Global,
+    format: Format,
+    columns: &C,
+    text: &[u8],
+    lines: &mut u32,
+    rows: &mut RowsBuilder,
+) -> Result<usize, DecodeFault>
+    requires bytes { lines.old + length text.now ≤ u32.MAX }
+    requires columns { length (C.columns columns.now) ≤ u32.MAX }
+    requires fit { AllFit (C.columns columns.now) (C.types columns.now) }
+    requires types { rows.old.types ≡ C.types columns.now }
+    requires none { rows.old.open_row ≡ [] }
+    requires few { length rows.old.rows ≤ MOST_ROWS }
+    ensures adds { UnlessNoMemory (Err DecodeFault.NoMemory) result
+        (AddsWhole format (C.columns columns.now) lines.old rows.old.rows text.now result lines.new rows.new.rows) }
+    ensures types { OnOk result (rows.new.types ≡ rows.old.types) }
+    ensures none { OnOk result (rows.new.open_row ≡ []) }
+{
+    let mut scratch = Bytes::new(alloc);
+    let mut done = 0;
+    loop {
+        let left = &text[done..];
+        match take_first(alloc, format, columns, left, *lines, &mut scratch, rows)? {
+            Some(size) => {
+                done += size;
+                *lines += 1;
+            }
+            None => return Ok(done),
+        }
+    }
+}
+
+/// Adds the row of the first line of a text, behind so many others, where the line has its line feed. The
+/// size is the line's with its line feed.
+#[inline(always)]
+fn take_first<C: Columns>(
+    alloc: Global,
+    format: Format,
+    columns: &C,
+    text: &[u8],
+    lines_before: u32,
+    scratch: &mut Bytes,
+    rows: &mut RowsBuilder,
+) -> Result<Option<usize>, DecodeFault>
+    requires bytes { lines_before + length text.now ≤ u32.MAX }
+    requires columns { length (C.columns columns.now) ≤ u32.MAX }
+    requires fit { AllFit (C.columns columns.now) (C.types columns.now) }
+    requires types { rows.old.types ≡ C.types columns.now }
+    requires none { rows.old.open_row ≡ [] }
+    requires few { length rows.old.rows ≤ MOST_ROWS }
+    ensures brings { UnlessNoMemory (Err DecodeFault.NoMemory) result
+        (FirstBrings format (C.columns columns.now) text.now lines_before rows.old.rows result rows.new.rows) }
+    ensures types { OnOk result (rows.new.types ≡ rows.old.types) }
+    ensures none { OnOk result (rows.new.open_row ≡ []) }
+{
+    if let Some(size) = take_row(alloc, format, columns, text, scratch, rows) {
+        return Ok(Some(size));
+    }
+    let Some((line, size)) = whole_line(rule_for(format), text) else {
+        return Ok(None);
+    };
+    take_line(alloc, format, columns, line, lines_before + 1, rows)?;
+    Ok(Some(size))
 }
 
 /// About how many rows a text has: as many as lines of the size of its first.

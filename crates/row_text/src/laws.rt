@@ -1,12 +1,14 @@
 // What holds of every text, whatever is called.
-ghost use Rattle.std.specs.Prelude.{◌≡◌, ◌≢◌, [], ℕ, List, Result, map};
+ghost use Rattle.std.specs.Prelude.{◌≡◌, ◌≢◌, ◌↔◌, ◌++◌, [], ℕ, List, Result, map};
 ghost use Rattle.std.specs.List.{AllByRecursion, flat_map};
 ghost use Rattle.dict_value.specs.declared.value.Field.{Field};
 ghost use Rattle.dict_value.specs.declared.value.Format.{Format};
 ghost use Rattle.dict_value.specs.declared.fault.LineFault.{LineFault};
-ghost use Rattle.row_text.specs.Cutting.{ended};
+ghost use Rattle.dict_value.specs.declared.value.Value.{Value};
+ghost use Rattle.row_text.specs.Cutting.{Cuts, ended};
 ghost use Rattle.row_text.specs.CsvRow.{BeginsWithMark, csv_fields, csv_text};
-ghost use Rattle.row_text.specs.Decoding.{Decoded, Decodes, LineGives, Reader};
+ghost use Rattle.row_text.specs.Decoding.{Decoded, Decodes, LineGives, Reader, rule_of};
+ghost use Rattle.row_text.specs.Growing.{DecodesBehind, GoesOn};
 ghost use Rattle.row_text.specs.TabRow.{row_line};
 ghost use Rattle.row_text.specs.Tables.{AreLines, IsCsvTable, IsTabTable};
 ghost use Rattle.row_text.specs.declared.cutter.CutRule.{CutRule};
@@ -50,6 +52,18 @@ pub fn one_decoding()
         × Decodes format columns text answer }
     ensures one { (format : Format) (columns : List Reader) (text : List ℕ) (answer other : Decoded)
         → Decodes format columns text answer → Decodes format columns text other → answer ≡ other }
+{}
+
+/// A text that is cut behind a row's end decodes as its first part, and then the rest behind it. Behind no
+/// lines and no rows it decodes as it does alone.
+pub fn decoding_goes_on()
+    ensures alone { (format : Format) (columns : List Reader) (text : List ℕ) (answer : Decoded)
+        → Decodes format columns text answer ↔ DecodesBehind format columns 0 [] text answer }
+    ensures cut { (format : Format) (columns : List Reader) (number : ℕ) (old : List (List Value)) (front rest : List ℕ)
+        (lines : List (List ℕ)) (first answer : Decoded) → Cuts (rule_of format) front lines []
+        → DecodesBehind format columns number old front first
+        → GoesOn format columns number old lines rest first answer
+        → DecodesBehind format columns number old (front ++ rest) answer }
 {}
 
 #[cfg(test)]

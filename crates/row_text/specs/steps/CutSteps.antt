@@ -1,5 +1,5 @@
 -- Where the first row of a piece ends.
-use Rattle.std.specs.Prelude.{◌≡◌, ◌⊎◌, ◌<◌, ◌++◌, [], slice_index, ℕ, List, length, take}
+use Rattle.std.specs.Prelude.{◌≡◌, ◌<◌, ◌≤◌, ◌++◌, slice_index, ℕ, List, length, take, drop}
 use Rattle.row_text.specs.declared.cutter.CutRule.{CutRule}
 use Rattle.row_text.specs.declared.cutter.Found.{Found}
 use Rattle.row_text.specs.declared.cutter.Found.TheVariants as found
@@ -18,10 +18,10 @@ Finds rule row piece (found.Row place) =
     (place < length piece) × (slice_index piece place ≡ LINE_FEED) × IsWhole rule (row ++ take place piece)
 Finds rule row piece (found.Inside inside) = IsOpen rule (row ++ piece) × (inside ≡ keeps_open rule (row ++ piece))
 
--- the text begins with this line, and the rest stands behind its line feed; or it is this line without one
-abbrev pub BeginsWithLine : CutRule → List ℕ → List ℕ → List ℕ → Type 0
-BeginsWithLine rule text line rest =
-    (IsWhole rule line × (text ≡ ended line ++ rest)) ⊎ (IsOpen rule line × (text ≡ line) × (rest ≡ []))
+-- the text begins with this line and its line feed, so many bytes together
+abbrev pub BeginsWithLine : CutRule → List ℕ → List ℕ → ℕ → Type 0
+BeginsWithLine rule text line size =
+    IsWhole rule line × (size ≤ length text) × (text ≡ ended line ++ drop size text)
 
 -- the rows that end in a piece come to the others, and what stands behind them is the new front of a row
 abbrev pub CutsPiece : CutRule → List ℕ → List (List ℕ) → List ℕ → List ℕ → List (List ℕ) → Type 0

@@ -1,5 +1,5 @@
 -- What the steps of decoding a text find.
-use Rattle.std.specs.Prelude.{◌≡◌, ◌<◌, ◌⊎◌, ◌∷◌, ◌++◌, [], ◌+◌, true, false, ℕ, List, length, map, Result, Ok, Err}
+use Rattle.std.specs.Prelude.{◌≡◌, ◌<◌, ◌⊎◌, ◌∷◌, ◌++◌, [], ◌+◌, true, false, ℕ, List, length, map, Option, Some, None, Result, Ok, Err}
 use Rattle.dict_value.specs.declared.fault.LineFault.{LineFault}
 use Rattle.dict_value.specs.declared.fault.LineFault.TheVariants as line_fault
 use Rattle.dict_value.specs.declared.fault.Why.{Why}
@@ -14,7 +14,9 @@ use Rattle.row_text.specs.declared.decode.DecodeFault.TheVariants as decode
 use Rattle.row_text.specs.declared.decode.RowFault.{RowFault}
 use Rattle.row_text.specs.declared.decode.RowFault.TheVariants as no_row
 use Rattle.dict_value.specs.declared.value.TheConstants.{MOST_ROWS}
-use Rattle.row_text.specs.Decoding.{IsBadLine, IsTypedRow, Reader, is_row_line, readings}
+use Rattle.row_text.specs.Cutting.{IsOpen}
+use Rattle.row_text.specs.Decoding.{IsBadLine, IsTypedRow, Reader, is_row_line, readings, rule_of}
+use Rattle.row_text.specs.steps.CutSteps.{BeginsWithLine}
 
 -- the first fault of the columns from the left, and its column
 abbrev pub IsFirstBadField : List Reader → List Field → ℕ → Why → Type 0
@@ -78,3 +80,12 @@ abbrev pub LineBrings : Format → List Reader → List ℕ → ℕ → List (Li
     → Result (Unit {0}) DecodeFault → List (List Value) → Type 0
 LineBrings format columns line number old (Ok _) new = AddsLine format columns line old new
 LineBrings format columns line number old (Err fault) new = LineFails format columns line number old fault
+
+-- what the first line of a text brings behind so many others, where it has its line feed; else the rows stay
+abbrev pub FirstBrings : Format → List Reader → List ℕ → ℕ → List (List Value)
+    → Result (Option ℕ) DecodeFault → List (List Value) → Type 0
+FirstBrings format columns text number old (Ok (Some size)) new =
+    (line : List ℕ) × BeginsWithLine (rule_of format) text line size × AddsLine format columns line old new
+FirstBrings format columns text number old (Ok None) new = IsOpen (rule_of format) text × (new ≡ old)
+FirstBrings format columns text number old (Err fault) new = (size : ℕ) × (line : List ℕ)
+    × BeginsWithLine (rule_of format) text line size × LineFails format columns line (number + 1) old fault

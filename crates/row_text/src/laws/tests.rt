@@ -1,4 +1,4 @@
-use crate::{one_decoding, one_list_of_lines, one_reading, one_table, written_tables};
+use crate::{decoding_goes_on, one_decoding, one_list_of_lines, one_reading, one_table, written_tables};
 
 #[test]
 fn laws() {
@@ -6,5 +6,6 @@ fn laws() {
     one_list_of_lines();
     one_table();
     one_decoding();
+    decoding_goes_on();
     written_tables();
 }
