@@ -10,17 +10,17 @@ use Rattle.ddl_tokens.specs.Reading.{Read, is_keyword, is_signed, is_the_sign, i
 use Rattle.ddl_tokens.specs.Laws.{first, place_of, IsNothing, Lawful}
 use Rattle.ddl_tokens.proofs.Laws.{ok_is, sign_no_keyword, test_cases}
 use Rattle.ddl_tokens.proofs.Once.{place_same}
-use Rattle.ddl_text.specs.Grammar.{is_at_end, is_end}
+use Rattle.ddl_text.specs.Grammar.{is_at_end, is_last_token}
 
 -- a keyword is no sign
 pub keyword_no_sign : (word : List ℕ) (s : ℕ) (t : Token) → is_keyword word t ≡ true → is_the_sign s t ≡ false
 keyword_no_sign word s t h = elim (cases_Bool (is_the_sign s t)) [ inr f ↦ f | inl f ↦ absurd (let k = sym h ∙ sign_no_keyword s word t f in cc) ]
 
 -- the text's end is no keyword
-pub end_no_keyword : (word : List ℕ) (t : Token) → is_end t.kind ≡ true → is_keyword word t ≡ false
+pub end_no_keyword : (word : List ℕ) (t : Token) → is_last_token t.kind ≡ true → is_keyword word t ≡ false
 unfolding is_keyword
 end_no_keyword word t e = cond-false (is_word t.kind) _ _ (no_word t.kind e) where
-  no_word : (k : TokenKind) → is_end k ≡ true → is_word k ≡ false
+  no_word : (k : TokenKind) → is_last_token k ≡ true → is_word k ≡ false
   no_word Word h = absurd cc
   no_word QuotedWord h = refl
   no_word Number h = refl
@@ -30,10 +30,10 @@ end_no_keyword word t e = cond-false (is_word t.kind) _ _ (no_word t.kind e) whe
   no_word End h = refl
 
 -- the text's end is no sign
-pub end_no_sign : (s : ℕ) (t : Token) → is_end t.kind ≡ true → is_the_sign s t ≡ false
+pub end_no_sign : (s : ℕ) (t : Token) → is_last_token t.kind ≡ true → is_the_sign s t ≡ false
 unfolding is_the_sign
 end_no_sign s t e = cond-false (is_signed t.kind) _ _ (no_sign t.kind e) where
-  no_sign : (k : TokenKind) → is_end k ≡ true → is_signed k ≡ false
+  no_sign : (k : TokenKind) → is_last_token k ≡ true → is_signed k ≡ false
   no_sign Word h = refl
   no_sign QuotedWord h = refl
   no_sign Number h = refl
@@ -43,10 +43,10 @@ end_no_sign s t e = cond-false (is_signed t.kind) _ _ (no_sign t.kind e) where
   no_sign End h = refl
 
 -- a keyword doesn't end the text
-pub keyword_no_end : (word : List ℕ) (t : Token) → is_keyword word t ≡ true → is_end t.kind ≡ false
-keyword_no_end word t h = elim (cases_Bool (is_end t.kind)) [ inr f ↦ f | inl f ↦ absurd (let k = sym h ∙ end_no_keyword word t f in cc) ]
+pub keyword_no_end : (word : List ℕ) (t : Token) → is_keyword word t ≡ true → is_last_token t.kind ≡ false
+keyword_no_end word t h = elim (cases_Bool (is_last_token t.kind)) [ inr f ↦ f | inl f ↦ absurd (let k = sym h ∙ end_no_keyword word t f in cc) ]
 
-pub end_ahead : (ts : List Token) → is_end (kind_ahead ts) ≡ is_at_end (first ts)
+pub end_ahead : (ts : List Token) → is_last_token (kind_ahead ts) ≡ is_at_end (first ts)
 unfolding kind_ahead
 end_ahead [] = refl
 end_ahead (t ∷ ts) = refl

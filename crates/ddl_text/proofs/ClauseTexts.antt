@@ -24,7 +24,7 @@ use Rattle.ddl_clauses.specs.Choices.{choice, meant_by, most_short, most_whole, 
 use Rattle.ddl_clauses.specs.Clauses.{clause_number, layout as written_layout, lifetime, number_of_clause, range as range_names, source}
 use Rattle.ddl_clauses.specs.Grammar.{AreDictionaryClauses, IsDictionaryClause, IsLifetime, IsOutputSettings, IsRange}
 use Rattle.ddl_clauses.specs.Parts.{clause_of_kind, dictionary_parts}
-use Rattle.ddl_writing.specs.Canonical.{column_name_text, comment_text, layout_text, lifetime_text, output_text, range_text, source_text}
+use Rattle.ddl_writing.specs.Canonical.{column_name_text, comment_text, layout_clause, lifetime_text, output_text, range_text, source_text}
 use Rattle.ddl_writing.specs.Quoted.{string_text}
 use Rattle.ddl_writing.specs.Words.{word_text}
 use Rattle.ddl_text.specs.Again.{SourceFits, LifetimeFits}
@@ -139,7 +139,7 @@ EndsExist d (range.Columns start end) = HasColumn d start × HasColumn d end
 -- the clauses mean what they are written of
 pub record ClausesAgain (d : Definition) (r : RangeOf) (text rest : List ℕ) : Type 0 where
   pub clauses : List Clause
-  pub written : Writes (source_text false d.source ++ (layout_text d.layout ++ (lifetime_text d.lifetime ++ (range_text d r ++ (output_text d.max_output ++ (comment_text text ++ rest)))))) (AreDictionaryClauses clauses) rest
+  pub written : Writes (source_text false d.source ++ (layout_clause d.layout ++ (lifetime_text d.lifetime ++ (range_text d r ++ (output_text d.max_output ++ (comment_text text ++ rest)))))) (AreDictionaryClauses clauses) rest
   pub source_is : d.source ≡ (dictionary_parts clauses).source
   pub layout_is : d.layout ≡ (dictionary_parts clauses).layout
   pub lifetime_is : d.lifetime ≡ (dictionary_parts clauses).lifetime
@@ -161,12 +161,12 @@ abbrev first_clauses : WrittenSource → WrittenLayout → Lifetime → List Cla
 first_clauses source layout lifetime = clause.Source source ∷ clause.Layout layout ∷ clause.Lifetime lifetime ∷ []
 
 first_three : (d : Definition) (behind rest : List ℕ) (c : List Clause) → LifetimeFits d.lifetime
-    → (s : SourceAgain Dictionary false d.source.kind d.source.update d.source (layout_text d.layout ++ (lifetime_text d.lifetime ++ behind))) → (l : LayoutAgain d.layout (lifetime_text d.lifetime ++ behind))
+    → (s : SourceAgain Dictionary false d.source.kind d.source.update d.source (layout_clause d.layout ++ (lifetime_text d.lifetime ++ behind))) → (l : LayoutAgain d.layout (lifetime_text d.lifetime ++ behind))
     → Writes behind (Clauses (first_clauses (source d.source.kind s.settings) (written_layout l.name l.settings) d.lifetime) c) rest
-    → Writes (source_text false d.source ++ (layout_text d.layout ++ (lifetime_text d.lifetime ++ behind))) (Clauses [] c) rest
+    → Writes (source_text false d.source ++ (layout_clause d.layout ++ (lifetime_text d.lifetime ++ behind))) (Clauses [] c) rest
 unfolding has_number
 first_three d behind rest c h s l more =
-    at_text (source_spelled false d.source (layout_text d.layout ++ (lifetime_text d.lifetime ++ behind)))
+    at_text (source_spelled false d.source (layout_clause d.layout ++ (lifetime_text d.lifetime ++ behind)))
     (once_more kind.Source (clause.Source (source d.source.kind s.settings)) refl (made_written clause.Source (clause.Source (source d.source.kind s.settings)) (source d.source.kind s.settings) refl s.written)
     (once_more kind.Layout (clause.Layout (written_layout l.name l.settings)) refl (made_written clause.Layout (clause.Layout (written_layout l.name l.settings)) (written_layout l.name l.settings) refl l.written)
     (once_more kind.Lifetime (clause.Lifetime d.lifetime) refl (made_written clause.Lifetime (clause.Lifetime d.lifetime) d.lifetime refl (lifetime_written d.lifetime behind h)) more)))
@@ -176,7 +176,7 @@ unfolding has_all has_number clause_of_kind
 clauses_again d range.None [] rest h apart =
     let behind = range_text d range.None ++ (output_text d.max_output ++ (comment_text [] ++ rest)) in
     let l = layout_again d.layout (lifetime_text d.lifetime ++ behind) h.layout in
-    let s = dictionary_source d.source.kind d.source.update d.source (layout_text d.layout ++ (lifetime_text d.lifetime ++ behind)) h.short h.kept h.used in
+    let s = dictionary_source d.source.kind d.source.update d.source (layout_clause d.layout ++ (lifetime_text d.lifetime ++ behind)) h.short h.kept h.used in
     let all = with_last (first_clauses (source d.source.kind s.settings) (written_layout l.name l.settings) d.lifetime) d.max_output [] in
     record {
       clauses = all;
@@ -191,7 +191,7 @@ clauses_again d range.None [] rest h apart =
 clauses_again d range.None (b ∷ text) rest h apart =
     let behind = range_text d range.None ++ (output_text d.max_output ++ (comment_text (b ∷ text) ++ rest)) in
     let l = layout_again d.layout (lifetime_text d.lifetime ++ behind) h.layout in
-    let s = dictionary_source d.source.kind d.source.update d.source (layout_text d.layout ++ (lifetime_text d.lifetime ++ behind)) h.short h.kept h.used in
+    let s = dictionary_source d.source.kind d.source.update d.source (layout_clause d.layout ++ (lifetime_text d.lifetime ++ behind)) h.short h.kept h.used in
     let all = with_last (first_clauses (source d.source.kind s.settings) (written_layout l.name l.settings) d.lifetime) d.max_output (b ∷ text) in
     record {
       clauses = all;
@@ -206,7 +206,7 @@ clauses_again d range.None (b ∷ text) rest h apart =
 clauses_again d (range.Columns start end) [] rest h apart =
     let behind = range_text d (range.Columns start end) ++ (output_text d.max_output ++ (comment_text [] ++ rest)) in
     let l = layout_again d.layout (lifetime_text d.lifetime ++ behind) h.layout in
-    let s = dictionary_source d.source.kind d.source.update d.source (layout_text d.layout ++ (lifetime_text d.lifetime ++ behind)) h.short h.kept h.used in
+    let s = dictionary_source d.source.kind d.source.update d.source (layout_clause d.layout ++ (lifetime_text d.lifetime ++ behind)) h.short h.kept h.used in
     let all = with_last (first_clauses (source d.source.kind s.settings) (written_layout l.name l.settings) d.lifetime ++ clause.Range (names_at d start end) ∷ []) d.max_output [] in
     record {
       clauses = all;
@@ -221,7 +221,7 @@ clauses_again d (range.Columns start end) [] rest h apart =
 clauses_again d (range.Columns start end) (b ∷ text) rest h apart =
     let behind = range_text d (range.Columns start end) ++ (output_text d.max_output ++ (comment_text (b ∷ text) ++ rest)) in
     let l = layout_again d.layout (lifetime_text d.lifetime ++ behind) h.layout in
-    let s = dictionary_source d.source.kind d.source.update d.source (layout_text d.layout ++ (lifetime_text d.lifetime ++ behind)) h.short h.kept h.used in
+    let s = dictionary_source d.source.kind d.source.update d.source (layout_clause d.layout ++ (lifetime_text d.lifetime ++ behind)) h.short h.kept h.used in
     let all = with_last (first_clauses (source d.source.kind s.settings) (written_layout l.name l.settings) d.lifetime ++ clause.Range (names_at d start end) ∷ []) d.max_output (b ∷ text) in
     record {
       clauses = all;

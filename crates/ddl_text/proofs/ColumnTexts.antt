@@ -22,7 +22,7 @@ use Rattle.ddl_columns.specs.declared.marks.Mark.TheVariants as mark
 use Rattle.ddl_columns.specs.Defaults.{default_given}
 use Rattle.ddl_columns.specs.Grammar.{AreArguments, AreColumns, AreMarks, IsArgument, IsColumn, IsColumnMark, IsKey, argument, column}
 use Rattle.ddl_columns.specs.Marks.{mark_number, word_of}
-use Rattle.ddl_writing.specs.Canonical.{and_then, arguments_text, column_at_text, column_name_text, column_text, default_text, keys_text, listed_column, literal_text, mark_text, marks_text, other_arguments_text, other_keys_text, type_text, typed_text}
+use Rattle.ddl_writing.specs.Canonical.{and_then, arguments_text, column_at_text, column_name_text, column_text, default_text, keys_text, listed_column, literal_text, column_mark, marks_text, other_arguments_text, other_keys_text, type_text, typed_text}
 use Rattle.ddl_writing.specs.Quoted.{name_text}
 use Rattle.ddl_text.proofs.Spelt.{Apart, Writes, apart_blank, apart_close, apart_comma, at_text, blank_first, fit, is_bare, keyword_written, last_of, made_written, no_more, nothing_written, once_more, one_more, separated_written, sign_written, then_written}
 use Rattle.ddl_text.proofs.Quoting.{name_at}
@@ -54,7 +54,7 @@ marks_of false true false = mark.ObjectId ∷ []
 marks_of false false true = mark.Injective ∷ []
 marks_of false false false = []
 
-marks_listed : (h o i : Bool) (rest : List ℕ) → Apart rest → Writes ((mark_text h (codes " HIERARCHICAL") ++ (mark_text o (codes " IS_OBJECT_ID") ++ mark_text i (codes " INJECTIVE"))) ++ rest) (Marks [] (marks_of h o i)) rest
+marks_listed : (h o i : Bool) (rest : List ℕ) → Apart rest → Writes ((column_mark h (codes " HIERARCHICAL") ++ (column_mark o (codes " IS_OBJECT_ID") ++ column_mark i (codes " INJECTIVE"))) ++ rest) (Marks [] (marks_of h o i)) rest
 unfolding has_number
 marks_listed true true true rest apart = mark_first mark.Hierarchical (codes " IS_OBJECT_ID" ++ (codes " INJECTIVE" ++ rest)) refl refl (apart_blank _) (mark_first mark.ObjectId (codes " INJECTIVE" ++ rest) refl refl (apart_blank _) (mark_first mark.Injective rest refl refl apart (last_of _ rest)))
 marks_listed true true false rest apart = mark_first mark.Hierarchical (codes " IS_OBJECT_ID" ++ rest) refl refl (apart_blank _) (mark_first mark.ObjectId rest refl refl apart (last_of _ rest))
@@ -65,7 +65,7 @@ marks_listed false true false rest apart = mark_first mark.ObjectId rest refl re
 marks_listed false false true rest apart = mark_first mark.Injective rest refl refl apart (last_of _ rest)
 marks_listed false false false rest apart = last_of _ rest
 
-marks_apart : (h o i : Bool) (rest : List ℕ) → Apart rest → Apart ((mark_text h (codes " HIERARCHICAL") ++ (mark_text o (codes " IS_OBJECT_ID") ++ mark_text i (codes " INJECTIVE"))) ++ rest)
+marks_apart : (h o i : Bool) (rest : List ℕ) → Apart rest → Apart ((column_mark h (codes " HIERARCHICAL") ++ (column_mark o (codes " IS_OBJECT_ID") ++ column_mark i (codes " INJECTIVE"))) ++ rest)
 marks_apart true true true rest apart = apart_blank _
 marks_apart true true false rest apart = apart_blank _
 marks_apart true false true rest apart = apart_blank _
@@ -75,7 +75,7 @@ marks_apart false true false rest apart = apart_blank _
 marks_apart false false true rest apart = apart_blank _
 marks_apart false false false rest apart = apart
 
-marks_written : (h o i : Bool) (rest : List ℕ) → Apart rest → Writes ((mark_text h (codes " HIERARCHICAL") ++ (mark_text o (codes " IS_OBJECT_ID") ++ mark_text i (codes " INJECTIVE"))) ++ rest) (AreMarks (marks_of h o i)) rest
+marks_written : (h o i : Bool) (rest : List ℕ) → Apart rest → Writes ((column_mark h (codes " HIERARCHICAL") ++ (column_mark o (codes " IS_OBJECT_ID") ++ column_mark i (codes " INJECTIVE"))) ++ rest) (AreMarks (marks_of h o i)) rest
 unfolding has_all
 marks_written h o i rest apart = fit (λ own f. (f, refl)) (marks_listed h o i rest apart)
 

@@ -15,7 +15,7 @@ use Rattle.ddl_tokens.proofs.Verdicts.{read_as}
 use Rattle.ddl_text.specs.declared.fault.DdlFault.{DdlFault}
 use Rattle.ddl_text.specs.declared.statement.Statement.{Statement}
 use Rattle.ddl_text.specs.Faults.{of_syntax}
-use Rattle.ddl_text.specs.Grammar.{EndsText, IsStatement, StatementStops, is_at_end}
+use Rattle.ddl_text.specs.Grammar.{EndsItems, IsStatement, StatementStops, is_at_end}
 use Rattle.ddl_text.specs.Reading.{statement_at}
 use Rattle.ddl_text.specs.Items.{IsRefused, IsTaken, item_of, rules_of}
 use Rattle.ddl_text.specs.Files.{IsEnded, AreEnded, none, more, IsFile, empty, last, fallen, IsAtEnd, AreItemsFrom, AreItems, IsDefined, FileSoFar, FallsFor, IsLeastOfFile, GoesOn, IsReadWhole}
@@ -31,14 +31,14 @@ reads = law.judged
 
 -- a statement that ends is read whatever follows
 ended_stops : (statement : Statement) (o : Option Token) → statement.ended ≡ true → StatementStops statement o
-ended_stops statement o e = subst (λ (b : Bool). EndsText b o) (sym e) tt
+ended_stops statement o e = subst (λ (b : Bool). EndsItems b o) (sym e) tt
 
 reads_ended : (statement : Statement) (own rest : List Token) → IsEnded statement own → reads (own ++ rest) ≡ Ok (stands statement, rest)
 reads_ended statement own rest h = law.law.only (stands statement) own rest h.1 (ended_stops statement (first rest) h.0)
 
 -- a statement without a semicolon is read at the text's end
 last_stops : (statement : Statement) (o : Option Token) → statement.ended ≡ false → is_at_end o ≡ true → StatementStops statement o
-last_stops statement o e h = subst (λ (b : Bool). EndsText b o) (sym e) h
+last_stops statement o e h = subst (λ (b : Bool). EndsItems b o) (sym e) h
 
 -- no statement begins at the text's end
 begins_before_end : (v : Verdict Statement) (own rest ts : List Token) → ts ≡ own ++ rest → IsStatement v own → is_at_end (first ts) ≡ false
@@ -217,7 +217,7 @@ whole_defined all items (before, ahead, rest, f, inr g) = record {
       own = f.front ++ g.1.own;
       parts = f.parts ∙ ap (λ (us : List Token). f.front ++ us) g.1.parts ∙ sym (append_assoc f.front g.1.own rest);
       fits = file_behind f.statements f.front (stands (g.0 ∷ [])) g.1.own f.before (last (sym g.2) g.1.fits);
-      stops = subst (λ (b : Bool). EndsText b (first rest)) (sym g.2) g.1.stops;
+      stops = subst (λ (b : Bool). EndsItems b (first rest)) (sym g.2) g.1.stops;
     },
   );
   made = subst (λ (xs : List Item). AreItems (f.statements ++ g.0 ∷ []) xs) (sym g.4) (items_then [] before f.statements g.0 f.made g.3);

@@ -35,7 +35,7 @@ use Rattle.ddl_columns.specs.Grammar.{AreColumns, IsKey}
 use Rattle.ddl_clauses.specs.Choices.{most_short}
 use Rattle.ddl_clauses.specs.Clauses.{source, written_function}
 use Rattle.ddl_clauses.specs.Parts.{dictionary_parts, function_parts}
-use Rattle.ddl_writing.specs.Canonical.{arguments_text, clauses_text, columns_text, comment_text, definition_text, function_text, item_text, keys_text, layout_text, lifetime_text, listed_column, output_text, range_text, signature_text, source_text, table_text, type_text}
+use Rattle.ddl_writing.specs.Canonical.{arguments_text, clauses_text, columns_text, comment_text, definition_text, function_text, item_text, keys_text, layout_clause, lifetime_text, listed_column, output_text, range_text, signature_text, source_text, table_text, type_text}
 use Rattle.ddl_writing.specs.Quoted.{name_text}
 use Rattle.ddl_writing.specs.Words.{word_text}
 use Rattle.ddl_writing.proofs.Defaults.{clear_behind, clear_front, defaults_fit}
@@ -153,8 +153,8 @@ definition_spelled d behind =
     ∙ ap (λ (u : List ℕ). name_text d.name ++ (codes " (" ++ u)) (append_assoc (columns_text d) (codes ") PRIMARY KEY " ++ keys_text d d.keys) behind))
 
 clauses_spelled : (d : Definition)
-    → source_text false d.source ++ clauses_text d ≡ source_text false d.source ++ (layout_text d.layout ++ (lifetime_text d.lifetime ++ (range_text d d.range ++ (output_text d.max_output ++ (comment_text d.comment ++ [])))))
-clauses_spelled d = ap (λ (u : List ℕ). source_text false d.source ++ (layout_text d.layout ++ (lifetime_text d.lifetime ++ (range_text d d.range ++ (output_text d.max_output ++ u))))) (sym (append-nil (comment_text d.comment)))
+    → source_text false d.source ++ clauses_text d ≡ source_text false d.source ++ (layout_clause d.layout ++ (lifetime_text d.lifetime ++ (range_text d d.range ++ (output_text d.max_output ++ (comment_text d.comment ++ [])))))
+clauses_spelled d = ap (λ (u : List ℕ). source_text false d.source ++ (layout_clause d.layout ++ (lifetime_text d.lifetime ++ (range_text d d.range ++ (output_text d.max_output ++ u))))) (sym (append-nil (comment_text d.comment)))
 
 -- the statement that the text of an item is
 pub record Stated (i : Item) (text : List ℕ) : Type 0 where
@@ -198,7 +198,7 @@ made_again d clauses place clear h =
 
 definition_stated : (d : Definition) → IsSound d → TextHasDefinition d → DefinitionFits d → Stated (item.Dictionary d) (definition_text d)
 definition_stated d sound h fits =
-    let behind = source_text false d.source ++ (layout_text d.layout ++ (lifetime_text d.lifetime ++ (range_text d d.range ++ (output_text d.max_output ++ (comment_text d.comment ++ []))))) in
+    let behind = source_text false d.source ++ (layout_clause d.layout ++ (lifetime_text d.lifetime ++ (range_text d d.range ++ (output_text d.max_output ++ (comment_text d.comment ++ []))))) in
     let clauses = clauses_again d d.range d.comment [] (is_clauses_again d sound.clear h fits) apart_end in
     let place = (token_of 0 Word (codes "CREATE")).place in
     let names = map (name_of_place d) d.keys in

@@ -27,7 +27,7 @@ use Rattle.ddl_clauses.specs.Grammar.{AreSettings, AreSettingsInBrackets, IsLayo
 use Rattle.ddl_clauses.specs.Layouts.{all_layouts, layout_named, layout_section}
 use Rattle.ddl_clauses.specs.Parts.{layout_with, value_of_setting}
 use Rattle.ddl_clauses.specs.SettingLists.{setting}
-use Rattle.ddl_writing.specs.Canonical.{bit_text, cache_text, flat_text, kept_text, layout_text, strategy_text}
+use Rattle.ddl_writing.specs.Canonical.{bit_text, cache_text, flat_text, kept_text, layout_clause, strategy_text}
 use Rattle.ddl_writing.specs.Words.{word_text}
 use Rattle.ddl_text.specs.Again.{CacheFits}
 use Rattle.ddl_text.proofs.Spelt.{Writes, apart_blank, apart_close, apart_open, at_text, blank_first, fit, is_bare, keyword_written, last_of, made_written, nothing_written, sign_written, then_written, token_of, word_at}
@@ -127,10 +127,10 @@ IsLayoutAgain _ = Unit {0}
 pub record LayoutAgain (l : Layout) (rest : List ℕ) : Type 0 where
   pub name : LayoutName
   pub settings : List Setting
-  pub written : Writes (layout_text l ++ rest) (IsLayout (written_layout name settings)) rest
+  pub written : Writes (layout_clause l ++ rest) (IsLayout (written_layout name settings)) rest
   pub means : l ≡ layout_with name settings
 
-layout_spelled : (l : Layout) (rest : List ℕ) → layout_text l ++ rest ≡ codes " LAYOUT(" ++ (kept_text l ++ (41 ∷ rest))
+layout_spelled : (l : Layout) (rest : List ℕ) → layout_clause l ++ rest ≡ codes " LAYOUT(" ++ (kept_text l ++ (41 ∷ rest))
 unfolding word_text
 layout_spelled l rest = ap (λ (u : List ℕ). codes " LAYOUT(" ++ u) (append_assoc (kept_text l) (codes ")") rest)
 
@@ -196,7 +196,7 @@ layout_again (layout.RangeHashed strategy) rest h = record {
   written = ranged strategy;
   means = refl;
 } where
-  ranged : (s : Strategy) → Writes (layout_text (layout.RangeHashed s) ++ rest) (IsLayout (written_layout layout_name.RangeHashed (setting name.RangeStrategy (value.Strategy s) ∷ []))) rest
+  ranged : (s : Strategy) → Writes (layout_clause (layout.RangeHashed s) ++ rest) (IsLayout (written_layout layout_name.RangeHashed (setting name.RangeStrategy (value.Strategy s) ∷ []))) rest
   ranged Min = at_text (layout_spelled (layout.RangeHashed Min) rest) (layout_around layout_name.RangeHashed (codes "RANGE_HASHED") _ (codes "range_lookup_strategy 'min')" ++ (41 ∷ rest)) rest refl refl (strategy_settings Min (41 ∷ rest)))
   ranged Max = at_text (layout_spelled (layout.RangeHashed Max) rest) (layout_around layout_name.RangeHashed (codes "RANGE_HASHED") _ (codes "range_lookup_strategy 'max')" ++ (41 ∷ rest)) rest refl refl (strategy_settings Max (41 ∷ rest)))
 layout_again (layout.ComplexRangeHashed strategy) rest h = record {
@@ -205,7 +205,7 @@ layout_again (layout.ComplexRangeHashed strategy) rest h = record {
   written = ranged strategy;
   means = refl;
 } where
-  ranged : (s : Strategy) → Writes (layout_text (layout.ComplexRangeHashed s) ++ rest) (IsLayout (written_layout layout_name.ComplexRangeHashed (setting name.RangeStrategy (value.Strategy s) ∷ []))) rest
+  ranged : (s : Strategy) → Writes (layout_clause (layout.ComplexRangeHashed s) ++ rest) (IsLayout (written_layout layout_name.ComplexRangeHashed (setting name.RangeStrategy (value.Strategy s) ∷ []))) rest
   ranged Min = at_text (layout_spelled (layout.ComplexRangeHashed Min) rest) (layout_around layout_name.ComplexRangeHashed (codes "COMPLEX_KEY_RANGE_HASHED") _ (codes "range_lookup_strategy 'min')" ++ (41 ∷ rest)) rest refl refl (strategy_settings Min (41 ∷ rest)))
   ranged Max = at_text (layout_spelled (layout.ComplexRangeHashed Max) rest) (layout_around layout_name.ComplexRangeHashed (codes "COMPLEX_KEY_RANGE_HASHED") _ (codes "range_lookup_strategy 'max')" ++ (41 ∷ rest)) rest refl refl (strategy_settings Max (41 ∷ rest)))
 layout_again (layout.Flat initial most) rest h = record {

@@ -17,7 +17,7 @@ use Rattle.ddl_tokens.proofs.Verdicts.{then_nothing, nothing_then}
 use Rattle.ddl_text.specs.declared.statement.WrittenName.{WrittenName}
 use Rattle.ddl_text.specs.Statements.{pointed}
 use Rattle.ddl_text.specs.Grammar.{IsBehindPoint, IsName, IsNamed}
-use Rattle.ddl_text.specs.Reading.{behind_point_at, behind_word_at, bracket_ahead_at, first_word_at, name_at, name_behind_at, named_at, not_exists_at}
+use Rattle.ddl_text.specs.Reading.{behind_point_at, behind_word_at, bracket_ahead_at, first_word_at, name_at, name_behind_at, written_name_at, not_exists_at}
 use Rattle.ddl_text.proofs.Ahead.{asked, asks}
 
 -- ---- a name, from its first word on
@@ -213,6 +213,6 @@ from_named name ts (inr h) = record {
   at true k = inr k
   at false k = k
 
-pub named_law : {Before : Option Token → Type 0} → Lawful Before named_at IsNamed BracketStops
-unfolding named_at
+pub named_law : {Before : Option Token → Type 0} → Lawful Before written_name_at IsNamed BracketStops
+unfolding written_name_at
 named_law = said to_named from_named (then first_word_law (λ word. behind_word_law word.0 word.1))

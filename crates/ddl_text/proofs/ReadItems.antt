@@ -57,7 +57,7 @@ use Rattle.ddl_text.specs.declared.statement.Written.{Written}
 use Rattle.ddl_text.specs.declared.statement.Written.TheVariants as written
 use Rattle.ddl_text.specs.declared.statement.WrittenName.{WrittenName}
 use Rattle.ddl_text.specs.Statements.{dictionary, function}
-use Rattle.ddl_text.specs.Grammar.{IsDictionary, IsEnding, IsFunction, IsStatement}
+use Rattle.ddl_text.specs.Grammar.{IsDictionary, IsItemEnd, IsFunction, IsStatement}
 use Rattle.ddl_text.specs.Items.{definition_of, is_date, is_misfit, is_set_apart, item_of, item_written, rules_of, settled, settled_from, with_default}
 use Rattle.ddl_text.specs.Files.{AreItemsFrom, IsDefined, IsFile, empty, last, fallen, more as another_one}
 use Rattle.ddl_writing.proofs.Defaults.{defaults_fit}
@@ -347,7 +347,7 @@ abbrev StatementHas : Statement → Type 0
 StatementHas st = WrittenHas st.written
 
 columns_case : (place : ℕ) (name : WrittenName) (st : Statement) (v : Verdict (List Column)) (ts : List Token)
-    → Onward (λ columns. Standing (Then IsKey (λ keys. Then (Made dictionary_parts AreDictionaryClauses) (λ parts. Made (dictionary place name columns keys parts) IsEnding)))) v (stands st) ts → StatementHas st
+    → Onward (λ columns. Standing (Then IsKey (λ keys. Then (Made dictionary_parts AreDictionaryClauses) (λ parts. Made (dictionary place name columns keys parts) IsItemEnd)))) v (stands st) ts → StatementHas st
 columns_case place name st (stands columns) ts k =
     let p = k.behind in
     subst (λ (x : Statement). StatementHas x) (sym p.behind.is) (of_parts p.value p.front p.before)
@@ -360,12 +360,12 @@ dictionary_has st ts h =
     columns_case h.value n.value st c.value c.back c.behind
 
 type_case : (place : ℕ) (name : List ℕ) (arguments : List Arg) (st : Statement) (v : Verdict AttrType) (ts : List Token)
-    → Onward (λ type. Standing (Then IsWrittenFunction (λ source. Made (function place name arguments type (function_parts source)) IsEnding))) v (stands st) ts → StatementHas st
+    → Onward (λ type. Standing (Then IsWrittenFunction (λ source. Made (function place name arguments type (function_parts source)) IsItemEnd))) v (stands st) ts → StatementHas st
 type_case place name arguments st (stands t) ts k = subst (λ (x : Statement). StatementHas x) (sym k.behind.is) (of_function k.value k.front k.before)
 type_case place name arguments st (falls e) ts k = absurd (let x = k.0 in cc)
 
 arguments_case : (place : ℕ) (name : List ℕ) (st : Statement) (v : Verdict (List Arg)) (ts : List Token)
-    → Onward (λ arguments. Then (IsKeyword (codes "RETURNS")) (λ _. ThenVerdict IsType (λ type. Standing (Then IsWrittenFunction (λ source. Made (function place name arguments type (function_parts source)) IsEnding))))) v (stands st) ts → StatementHas st
+    → Onward (λ arguments. Then (IsKeyword (codes "RETURNS")) (λ _. ThenVerdict IsType (λ type. Standing (Then IsWrittenFunction (λ source. Made (function place name arguments type (function_parts source)) IsItemEnd))))) v (stands st) ts → StatementHas st
 arguments_case place name st (stands arguments) ts k = let t = k.behind in type_case place name arguments st t.value t.back t.behind
 arguments_case place name st (falls e) ts k = absurd (let x = k.0 in cc)
 

@@ -29,7 +29,7 @@ use Rattle.ddl_clauses.proofs.ClauseLaws.{clauses_begin, dictionary_clauses_law,
 use Rattle.ddl_text.specs.declared.statement.Statement.{Statement}
 use Rattle.ddl_text.specs.declared.statement.WrittenName.{WrittenName}
 use Rattle.ddl_text.specs.Statements.{dictionary, function}
-use Rattle.ddl_text.specs.Grammar.{EndsText, IsBegun, IsDictionary, IsEnding, IsFunction, IsOrReplace, IsStatement, StatementStops, is_at_end}
+use Rattle.ddl_text.specs.Grammar.{EndsItems, IsBegun, IsDictionary, IsItemEnd, IsFunction, IsOrReplace, IsStatement, StatementStops, is_at_end}
 use Rattle.ddl_text.specs.Reading.{begin_at, behind_columns_at, dictionary_at, ending_at, function_at, or_replace_at, statement_at, text_end_at}
 use Rattle.ddl_text.proofs.Ahead.{asked, asks, end_ahead, end_no_keyword, end_no_sign, keyword_no_end, keyword_no_sign}
 use Rattle.ddl_text.proofs.NameLaws.{cond_bind, named_law, placed}
@@ -61,33 +61,33 @@ no_semicolon None e = refl
 no_semicolon (Some t) e = end_no_sign 59 t e
 
 abbrev EndingStops : Bool → Option Token → Type 0
-EndingStops ended next = EndsText ended next
+EndingStops ended next = EndsItems ended next
 
 semicolon_first : (ended : Bool) (own rest : List Token) → Made (λ _. true) (IsSign 59) ended own → Passes (is_the_sign 59) (first (own ++ rest))
 semicolon_first ended own rest h =
     let one = h.fits in
     ap (λ (us : List Token). passes_first (is_the_sign 59) (first (us ++ rest))) one.parts ∙ (judged_ok (is_the_sign 59 one.token) (tt {0}) h.from (Unexpected one.token.place) one.fine).0
 
-ending_law : {Before : Option Token → Type 0} → Lawful Before ending_at IsEnding EndingStops
+ending_law : {Before : Option Token → Type 0} → Lawful Before ending_at IsItemEnd EndingStops
 unfolding ending_at
 ending_law =
     by_token (is_the_sign 59) EndingStops (made {Own = IsSign 59} (λ _. true) Anyhow (λ a o s. tt) (λ a o s. tt) (sign 59))
     (said (λ a ts h. (h.is, h.fits.1)) (λ a ts h. record { from = tt {0}; is = h.0; fits = (refl, h.1) }) (made (λ _. false) (λ _ o. is_at_end o ≡ true) (λ a o s. s) (λ a o s. s) text_end_law))
     semicolon_first
-    (λ ended own rest h s. subst (λ (us : List Token). Fails (is_the_sign 59) (first (us ++ rest))) (sym h.1) (no_semicolon (first rest) (subst (λ (b : Bool). EndsText b (first rest)) h.0 s)))
-    (λ ended own o h s. subst (λ (b : Bool). EndsText b o) (sym h.is) tt)
+    (λ ended own rest h s. subst (λ (us : List Token). Fails (is_the_sign 59) (first (us ++ rest))) (sym h.1) (no_semicolon (first rest) (subst (λ (b : Bool). EndsItems b (first rest)) h.0 s)))
+    (λ ended own o h s. subst (λ (b : Bool). EndsItems b o) (sym h.is) tt)
     (λ ended own o h s. tt)
-    (λ ended own rest h s e. subst (λ (b : Bool). EndsText b (first rest)) (sym h.0) s)
-    (λ ended own o h s. subst (λ (b : Bool). EndsText b o) h.0 s)
+    (λ ended own rest h s e. subst (λ (b : Bool). EndsItems b (first rest)) (sym h.0) s)
+    (λ ended own o h s. subst (λ (b : Bool). EndsItems b o) h.0 s)
 
 -- what ends a statement is no keyword
-ending_no_keyword : (word : List ℕ) (ended : Bool) (own rest : List Token) → IsEnding ended own → EndsText ended (first rest) → passes_first (is_keyword word) (first (own ++ rest)) ≡ false
+ending_no_keyword : (word : List ℕ) (ended : Bool) (own rest : List Token) → IsItemEnd ended own → EndsItems ended (first rest) → passes_first (is_keyword word) (first (own ++ rest)) ≡ false
 ending_no_keyword word ended own rest (inl h) s =
     let one = h.fits in
     ap (λ (us : List Token). passes_first (is_keyword word) (first (us ++ rest))) one.parts
     ∙ sign_no_keyword 59 word one.token (judged_ok (is_the_sign 59 one.token) (tt {0}) h.from (Unexpected one.token.place) one.fine).0
 ending_no_keyword word ended own rest (inr h) s =
-    ap (λ (us : List Token). passes_first (is_keyword word) (first (us ++ rest))) h.1 ∙ at (first rest) (subst (λ (b : Bool). EndsText b (first rest)) h.0 s) where
+    ap (λ (us : List Token). passes_first (is_keyword word) (first (us ++ rest))) h.1 ∙ at (first rest) (subst (λ (b : Bool). EndsItems b (first rest)) h.0 s) where
       at : (o : Option Token) → is_at_end o ≡ true → passes_first (is_keyword word) o ≡ false
       at None e = refl
       at (Some t) e = end_no_keyword word t e
@@ -127,10 +127,10 @@ no_clause_follows a None e = tt
 no_clause_follows a (Some t) e = no_clause t e
 
 -- what is made of the ending stops where that does
-ended_by : (make : Bool → Statement) → ((b : Bool) → (make b).ended ≡ b) → (word : List ℕ) (statement : Statement) (ts rest : List Token) → Made make IsEnding statement ts → StatementStops statement (first rest)
+ended_by : (make : Bool → Statement) → ((b : Bool) → (make b).ended ≡ b) → (word : List ℕ) (statement : Statement) (ts rest : List Token) → Made make IsItemEnd statement ts → StatementStops statement (first rest)
     → passes_first (is_keyword word) (first (ts ++ rest)) ≡ false
 ended_by make ended word statement ts rest h s =
-    ending_no_keyword word h.from ts rest h.fits (subst (λ (b : Bool). EndsText b (first rest)) (ap (λ (x : Statement). x.ended) h.is ∙ ended h.from) s)
+    ending_no_keyword word h.from ts rest h.fits (subst (λ (b : Bool). EndsItems b (first rest)) (ap (λ (x : Statement). x.ended) h.is ∙ ended h.from) s)
 
 function_stops : (written : WrittenFunction) (o : Option Token) → passes_first (is_keyword (codes "SETTINGS")) o ≡ false → FunctionStops written o
 function_stops written o e = at written.output o e where
@@ -143,9 +143,9 @@ function_stops written o e = at written.output o e where
 
 module _ (place : ℕ) (name : WrittenName) (columns : List Column) where
   abbrev KeyAndClauses : Statement → List Token → Type 0
-  KeyAndClauses = Then IsKey (λ keys. Then (Made dictionary_parts AreDictionaryClauses) (λ parts. Made (dictionary place name columns keys parts) IsEnding))
+  KeyAndClauses = Then IsKey (λ keys. Then (Made dictionary_parts AreDictionaryClauses) (λ parts. Made (dictionary place name columns keys parts) IsItemEnd))
 
-  key_follows : (keys : List (List ℕ)) (statement : Statement) (ts rest : List Token) → Then (Made dictionary_parts AreDictionaryClauses) (λ parts. Made (dictionary place name columns keys parts) IsEnding) statement ts
+  key_follows : (keys : List (List ℕ)) (statement : Statement) (ts rest : List Token) → Then (Made dictionary_parts AreDictionaryClauses) (λ parts. Made (dictionary place name columns keys parts) IsItemEnd) statement ts
       → passes_first (is_the_sign 44) (first (ts ++ rest)) ≡ false
   key_follows keys statement ts rest h = no_sign_first 44 ts rest (begins_behind h.front h.back ts h.parts (clauses_begin h.before.from h.front h.before.fits))
 
@@ -191,7 +191,7 @@ bind_made make (Err e) f = refl
 
 module _ (place : ℕ) (name : List ℕ) (arguments : List Arg) (returns : AttrType) where
   abbrev Source : Statement → List Token → Type 0
-  Source = Then IsWrittenFunction (λ source. Made (function place name arguments returns (function_parts source)) IsEnding)
+  Source = Then IsWrittenFunction (λ source. Made (function place name arguments returns (function_parts source)) IsItemEnd)
 
   abbrev source_and_end_at : List Token → Read Statement
   source_and_end_at ts = function_clauses_at ts >>= λ parts. ending_at parts.1 >>= λ ended. Ok (function place name arguments returns parts.0 ended.0, ended.1)

@@ -19,7 +19,7 @@ use Rattle.ddl_text.specs.declared.statement.Statement.{Statement}
 use Rattle.ddl_text.specs.declared.statement.WrittenName.{WrittenName}
 use Rattle.ddl_text.specs.Statements.{dictionary}
 use Rattle.ddl_text.specs.Faults.{of_reading}
-use Rattle.ddl_text.specs.Grammar.{is_at_end, is_end}
+use Rattle.ddl_text.specs.Grammar.{is_at_end, is_last_token}
 use Rattle.ddl_text.specs.Items.{IsFaultOf, IsRefused, IsTaken, is_full, item_of, sizes_of}
 use Rattle.ddl_text.specs.Files.{FallsHere, GoesOn, IfFault}
 use Rattle.ddl_text.specs.Reading.{behind_columns_at, ending_at, statement_at}
@@ -49,10 +49,10 @@ refused_made before statement file.NoMemory few h = tt
 
 -- ---- the next item
 
-pub ends_here : (before : List Item) (ts : List Token) (b : Bool) → b ≡ is_end (kind_ahead ts) → b ≡ true → GoesOn before ts before ts false
+pub ends_here : (before : List Item) (ts : List Token) (b : Bool) → b ≡ is_last_token (kind_ahead ts) → b ≡ true → GoesOn before ts before ts false
 ends_here before ts b e h = inl (sym (end_ahead ts) ∙ sym e ∙ h, refl, refl, refl)
 
-pub begins_here : (ts : List Token) (b : Bool) → b ≡ is_end (kind_ahead ts) → b ≡ false → is_at_end (first ts) ≡ false
+pub begins_here : (ts : List Token) (b : Bool) → b ≡ is_last_token (kind_ahead ts) → b ≡ false → is_at_end (first ts) ≡ false
 begins_here ts b e h = sym (end_ahead ts) ∙ sym e ∙ h
 
 pub statement_fails : (X : Type 0) (before : List Item) (ts rest : List Token) (e : ReadFault) → is_at_end (first ts) ≡ false → Gives {X = Statement} (λ statement. statement) (Err e) rest (statement_at ts) → IfFault {X = X} (Err (of_reading e)) (FallsHere before ts)

@@ -36,7 +36,7 @@ use Rattle.ddl_columns.specs.declared.types.TypeName.TheVariants as name
 use Rattle.ddl_columns.specs.Defaults.{default_given, literal, or_misfit}
 use Rattle.ddl_columns.specs.Grammar.{IsBase, IsDecimal, IsType}
 use Rattle.ddl_columns.specs.Types.{base_name, decimal as decimal_type, decimal_named, not_null, not_nullable, nullable, number_named, text_named, type_name, type_named, whole_number, whole_of}
-use Rattle.ddl_writing.specs.Canonical.{base_text, decimal_text, literal_text, type_text}
+use Rattle.ddl_writing.specs.Canonical.{base_text, decimal_type_text, literal_text, type_text}
 use Rattle.ddl_text.proofs.Spelt.{Apart, Writes, apart_close, apart_comma, apart_open, at_text, blank_first, fit, made_written, nothing_written, one_at, sign_written, then_at, then_written, token_of, word_at}
 use Rattle.ddl_text.proofs.Quoting.{IsPlain, number_at, plain_at, scaled_written, signed_token, string_at, whole_read}
 use Rattle.ddl_text.proofs.ValueTexts.{plain_day, plain_id, plain_second, plain_v4, plain_v6}
@@ -64,7 +64,7 @@ decimal_behind place digits scale rest h =
     (then_written (Some scale) (then_written tt (sign_written 44 (32 ∷ (decimal scale ++ (41 ∷ rest))) refl) (blank_first (whole_written scale (41 ∷ rest) (omega (arith, h)) (apart_close rest))))
     (made_written (λ _. decimal_type place digits scale) (stands (type.Decimal digits scale)) tt (decimal_stands place digits scale h) (sign_written 41 rest refl))))
 
-decimal_spelled : (digits scale : ℕ) (rest : List ℕ) → decimal_text digits scale ++ rest ≡ codes "Decimal" ++ Digits digits scale rest
+decimal_spelled : (digits scale : ℕ) (rest : List ℕ) → decimal_type_text digits scale ++ rest ≡ codes "Decimal" ++ Digits digits scale rest
 decimal_spelled digits scale rest =
     ap (λ (u : List ℕ). codes "Decimal(" ++ u)
     (append_assoc (decimal digits) (44 ∷ 32 ∷ (decimal scale ++ codes ")")) rest ∙ ap (λ (u : List ℕ). decimal digits ++ (44 ∷ 32 ∷ u)) (append_assoc (decimal scale) (codes ")") rest))

@@ -36,23 +36,23 @@ IsNamed = Either IsNewName IsName
 
 -- ---- the end of a statement
 
-abbrev pub is_end : TokenKind → Bool
-is_end End = true
-is_end _ = false
+abbrev pub is_last_token : TokenKind → Bool
+is_last_token End = true
+is_last_token _ = false
 
 -- a semicolon, or nothing
-abbrev pub IsEnding : Grammar Bool
-IsEnding = Either (Made (λ _. true) (IsSign 59)) (IsNothing false)
+abbrev pub IsItemEnd : Grammar Bool
+IsItemEnd = Either (Made (λ _. true) (IsSign 59)) (IsNothing false)
 
 -- the text ends before this token
 abbrev pub is_at_end : Option Token → Bool
 is_at_end None = true
-is_at_end (Some t) = is_end t.kind
+is_at_end (Some t) = is_last_token t.kind
 
 -- where no semicolon stands, the text ends
-abbrev pub EndsText : Bool → Option Token → Type 0
-EndsText true next = Unit {0}
-EndsText false next = is_at_end next ≡ true
+abbrev pub EndsItems : Bool → Option Token → Type 0
+EndsItems true next = Unit {0}
+EndsItems false next = is_at_end next ≡ true
 
 -- ---- statements, each with its end
 
@@ -74,7 +74,7 @@ IsDictionary =
     Standing (
     Then IsKey (λ keys.
     Then (Made dictionary_parts AreDictionaryClauses) (λ parts.
-    Made (dictionary place name columns keys parts) IsEnding))))))))
+    Made (dictionary place name columns keys parts) IsItemEnd))))))))
 
 -- EXECUTABLE FUNCTION word arguments RETURNS type source [ settings ]
 abbrev pub IsFunction : Grammar (Verdict Statement)
@@ -87,10 +87,10 @@ IsFunction =
     ThenVerdict IsType (λ type.
     Standing (
     Then IsWrittenFunction (λ source.
-    Made (function place name arguments type (function_parts source)) IsEnding))))))))
+    Made (function place name arguments type (function_parts source)) IsItemEnd))))))))
 
 abbrev pub IsStatement : Grammar (Verdict Statement)
 IsStatement = Either IsDictionary IsFunction
 
 abbrev pub StatementStops : Stopping Statement
-StatementStops statement next = EndsText statement.ended next
+StatementStops statement next = EndsItems statement.ended next

@@ -8,7 +8,7 @@ use Rattle.ddl_columns.specs.Reading.{arguments_at, column_list_at, key_at, type
 use Rattle.ddl_clauses.specs.Reading.{dictionary_clauses_at, function_clauses_at}
 use Rattle.ddl_text.specs.declared.statement.Statement.{Statement}
 use Rattle.ddl_text.specs.declared.statement.WrittenName.{WrittenName}
-use Rattle.ddl_text.specs.Grammar.{is_end}
+use Rattle.ddl_text.specs.Grammar.{is_last_token}
 use Rattle.ddl_text.specs.Statements.{dictionary, function, pointed}
 
 -- ---- names
@@ -47,8 +47,8 @@ behind_word_at is_if word ts =
 unfoldable pub bracket_ahead_at : List Token → Read (Unit {0})
 bracket_ahead_at ts = if passes (is_the_sign 40) ts then Ok (tt, ts) else unexpected ts
 
-unfoldable pub named_at : List Token → Read WrittenName
-named_at ts = do
+unfoldable pub written_name_at : List Token → Read WrittenName
+written_name_at ts = do
   word ← first_word_at ts
   name ← behind_word_at word.0.0 word.0.1 word.1
   bracket ← bracket_ahead_at name.1
@@ -69,7 +69,7 @@ or_replace_at ts =
 
 -- the text ends
 unfoldable pub text_end_at : List Token → Read (Unit {0})
-text_end_at ts = if is_end (kind_ahead ts) then Ok (tt, ts) else unexpected ts
+text_end_at ts = if is_last_token (kind_ahead ts) then Ok (tt, ts) else unexpected ts
 
 -- whether a semicolon ends the statement, or else the text's end does
 unfoldable pub ending_at : List Token → Read Bool
@@ -90,7 +90,7 @@ dictionary_at ts = do
   place ← begin_at (codes "CREATE") ts
   replace ← or_replace_at place.1
   word ← keyword_at (codes "DICTIONARY") replace.1
-  name ← named_at word.1
+  name ← written_name_at word.1
   columns ← column_list_at name.1
   behind_columns_at place.0 name.0 columns.0 columns.1
 

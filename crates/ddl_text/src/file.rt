@@ -2,7 +2,7 @@
 ghost use Rattle.std.specs.Prelude.{◌≡◌, ◌<◌, ◌≤◌, length, All, IfOk, IsTrue, OnOk};
 ghost use Rattle.dict_schema.specs.Sound.{IsSoundItem};
 ghost use Rattle.ddl_tokens.specs.Reading.{kind_ahead};
-ghost use Rattle.ddl_text.specs.Grammar.{is_end};
+ghost use Rattle.ddl_text.specs.Grammar.{is_last_token};
 ghost use Rattle.ddl_text.specs.Files.{FallsFor, FallsHere, GoesOn, IfFault, IsReadWhole};
 
 use crate::fault::FileFault;
@@ -15,7 +15,7 @@ use std::alloc::Global;
 
 /// Whether the text ends here.
 fn is_at_end(r: &Reader<'_>) -> bool
-    ensures { result ≡ is_end (kind_ahead r.now) }
+    ensures { result ≡ is_last_token (kind_ahead r.now) }
 {
     matches!(r.kind(), TokenKind::End)
 }

@@ -2,7 +2,7 @@
 ghost use Rattle.std.specs.Prelude.{◌≡◌, ◌<◌, ◌≤◌, length, OnOk};
 ghost use Rattle.ddl_tokens.specs.Reading.{Gives};
 ghost use Rattle.ddl_text.specs.Reading.{behind_point_at, behind_word_at, bracket_ahead_at, first_word_at, name_at};
-ghost use Rattle.ddl_text.specs.Reading.{name_behind_at, named_at, not_exists_at};
+ghost use Rattle.ddl_text.specs.Reading.{name_behind_at, written_name_at, not_exists_at};
 
 use crate::statement::WrittenName;
 use ddl_tokens::{ReadFault, Reader};
@@ -92,9 +92,9 @@ fn bracket_ahead(r: &Reader<'_>) -> Result<(), ReadFault>
 }
 
 /// The name of a dictionary, with IF NOT EXISTS before it or not, up to the bracket of the columns.
-#[tactic(auto, unfolding(crate::specs::Reading::named_at))]
+#[tactic(auto, unfolding(crate::specs::Reading::written_name_at))]
 pub(crate) fn named(alloc: Global, r: &mut Reader<'_>) -> Result<WrittenName, ReadFault>
-    ensures value { Gives (λ name. name) result r.new (named_at r.old) }
+    ensures value { Gives (λ name. name) result r.new (written_name_at r.old) }
     ensures shorter { OnOk result (length r.new < length r.old) }
 {
     let (is_if, word) = first_word(alloc, r)?;

@@ -38,8 +38,8 @@ use Rattle.ddl_writing.specs.declared.words.Word.TheVariants as word
 
 -- ---- types and values
 
-abbrev pub decimal_text : ℕ → ℕ → List ℕ
-decimal_text digits scale = codes "Decimal(" ++ (decimal digits ++ (codes ", " ++ (decimal scale ++ codes ")")))
+abbrev pub decimal_type_text : ℕ → ℕ → List ℕ
+decimal_type_text digits scale = codes "Decimal(" ++ (decimal digits ++ (codes ", " ++ (decimal scale ++ codes ")")))
 
 abbrev pub base_text : ColType → List ℕ
 base_text type.UInt8 = codes "UInt8"
@@ -56,7 +56,7 @@ base_text type.DateTime = codes "DateTime"
 base_text type.Uuid = codes "UUID"
 base_text type.Ipv4 = codes "IPv4"
 base_text type.Ipv6 = codes "IPv6"
-base_text (type.Decimal digits scale) = decimal_text digits scale
+base_text (type.Decimal digits scale) = decimal_type_text digits scale
 
 abbrev pub type_text : AttrType → List ℕ
 type_text t = if t.nullable then codes "Nullable(" ++ (base_text t.base ++ codes ")") else base_text t.base
@@ -81,13 +81,13 @@ literal_text t (value.V6 n) = as_string (value_text t (value.V6 n))
 -- ---- columns and keys
 
 -- a mark, where the column has it
-abbrev pub mark_text : Bool → List ℕ → List ℕ
-mark_text marked word = if marked then word else []
+abbrev pub column_mark : Bool → List ℕ → List ℕ
+column_mark marked word = if marked then word else []
 
 abbrev pub marks_text : Column → List ℕ
 marks_text column =
-    mark_text column.hierarchical (codes " HIERARCHICAL")
-    ++ (mark_text column.object_id (codes " IS_OBJECT_ID") ++ mark_text column.injective (codes " INJECTIVE"))
+    column_mark column.hierarchical (codes " HIERARCHICAL")
+    ++ (column_mark column.object_id (codes " IS_OBJECT_ID") ++ column_mark column.injective (codes " INJECTIVE"))
 
 -- attributes always have a default; keys and the ends of a range never do
 abbrev pub default_text : Bool → Column → List ℕ
@@ -209,8 +209,8 @@ kept_text (layout.ComplexCache cache) = word_text word.ComplexCache ++ cache_tex
 kept_text layout.Direct = codes "DIRECT()"
 kept_text layout.ComplexDirect = codes "COMPLEX_KEY_DIRECT()"
 
-abbrev pub layout_text : Layout → List ℕ
-layout_text kept = word_text word.Kept ++ (kept_text kept ++ codes ")")
+abbrev pub layout_clause : Layout → List ℕ
+layout_clause kept = word_text word.Kept ++ (kept_text kept ++ codes ")")
 
 abbrev pub lifetime_text : Lifetime → List ℕ
 lifetime_text lifetime =
@@ -238,7 +238,7 @@ table_text d =
 
 abbrev pub clauses_text : Definition → List ℕ
 clauses_text d =
-    layout_text d.layout ++ (lifetime_text d.lifetime ++ (range_text d d.range
+    layout_clause d.layout ++ (lifetime_text d.lifetime ++ (range_text d d.range
     ++ (output_text d.max_output ++ comment_text d.comment)))
 
 abbrev pub definition_text : Definition → List ℕ

@@ -27,11 +27,11 @@ abbrev pub byte_in_quotes : ℕ → ℕ → List ℕ
 byte_in_quotes quote b = with_letter b (letter_in_quotes quote b)
 
 -- a text in quotes
-abbrev pub in_quotes : ℕ → List ℕ → List ℕ
-in_quotes quote text = quote ∷ (flat_map (byte_in_quotes quote) text ++ quote ∷ [])
+abbrev pub quoted_text : ℕ → List ℕ → List ℕ
+quoted_text quote text = quote ∷ (flat_map (byte_in_quotes quote) text ++ quote ∷ [])
 
 abbrev pub name_text : List ℕ → List ℕ
-name_text name = in_quotes BACKQUOTE name
+name_text name = quoted_text BACKQUOTE name
 
 abbrev pub string_text : List ℕ → List ℕ
-string_text text = in_quotes SINGLE_QUOTE text
+string_text text = quoted_text SINGLE_QUOTE text

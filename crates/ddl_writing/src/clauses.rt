@@ -1,6 +1,7 @@
 // The clauses of a dictionary. After `NoMemory` a front of what was to be written may stand behind what was there.
 ghost use Rattle.std.specs.Prelude.{◌≡◌, ◌++◌, length, take, OnErr, OnOk};
-ghost use Rattle.ddl_writing.specs.Canonical.{cache_text, clauses_text, comment_text, flat_text, kept_text, layout_text};
+ghost use Rattle.ddl_writing.specs.Canonical.{cache_text, clauses_text, comment_text, flat_text, kept_text};
+ghost use Rattle.ddl_writing.specs.Canonical.{layout_clause};
 ghost use Rattle.ddl_writing.specs.Canonical.{lifetime_text, output_text, range_text, strategy_text};
 
 use crate::columns::push_column_name;
@@ -84,7 +85,7 @@ fn push_kept(out: &mut Bytes, kept: &Layout) -> Result<(), NoMemory>
 /// Appends the layout.
 #[tactic(auto, using(dict_value::proofs::Fronts::front_stays))]
 fn push_layout(out: &mut Bytes, kept: &Layout) -> Result<(), NoMemory>
-    ensures ok { OnOk result (out.new ≡ out.old ++ layout_text kept.now) }
+    ensures ok { OnOk result (out.new ≡ out.old ++ layout_clause kept.now) }
     ensures err { OnErr result (take (length out.old) out.new ≡ out.old) }
 {
     push_word(out, Word::Kept)?;

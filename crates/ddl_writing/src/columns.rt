@@ -3,7 +3,7 @@ ghost use Rattle.std.specs.Prelude.{◌≡◌, ◌++◌, ◌≤◌, ◌+◌, len
 ghost use Rattle.std.specs.List.{flat_map};
 ghost use Rattle.ddl_writing.specs.Canonical.{DefaultFits, DefaultsFit, and_then, column_at_text, column_name_text};
 ghost use Rattle.ddl_writing.specs.Canonical.{column_text, columns_text, default_text, keys_text, listed_column};
-ghost use Rattle.ddl_writing.specs.Canonical.{mark_text, marks_text, other_keys_text};
+ghost use Rattle.ddl_writing.specs.Canonical.{column_mark, marks_text, other_keys_text};
 
 use crate::quoted::push_name;
 use crate::types::{push_literal, push_typed};
@@ -12,7 +12,7 @@ use dict_value::{Bytes, NoMemory, fits_column};
 
 /// Appends a mark, where the column has it.
 fn push_mark(out: &mut Bytes, marked: bool, word: &[u8]) -> Result<(), NoMemory>
-    ensures ok { OnOk result (out.new ≡ out.old ++ mark_text marked word.now) }
+    ensures ok { OnOk result (out.new ≡ out.old ++ column_mark marked word.now) }
     ensures err { OnErr result (take (length out.old) out.new ≡ out.old) }
 {
     if marked { out.extend(word) } else { Ok(()) }

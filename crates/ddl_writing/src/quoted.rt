@@ -1,7 +1,7 @@
 // Names and texts in quotes. After `NoMemory` a front of what was to be written may stand behind what was there.
 ghost use Rattle.std.specs.Prelude.{◌≡◌, ◌++◌, length, take, OnErr, OnOk};
 ghost use Rattle.std.specs.List.{flat_map};
-ghost use Rattle.ddl_writing.specs.Quoted.{byte_in_quotes, in_quotes, letter_in_quotes, name_text, string_text};
+ghost use Rattle.ddl_writing.specs.Quoted.{byte_in_quotes, quoted_text, letter_in_quotes, name_text, string_text};
 
 use dict_value::letters::{
     BACKSLASH, BACKSPACE, CARRIAGE_RETURN, DIGIT_0, FORM_FEED, LETTER_B, LETTER_F, LETTER_N,
@@ -61,7 +61,7 @@ fn push_bytes(out: &mut Bytes, quote: u8, text: &[u8]) -> Result<(), NoMemory>
 /// Appends a text in quotes.
 #[tactic(auto, using(dict_value::proofs::Fronts::front_stays))]
 fn push_quoted(out: &mut Bytes, quote: u8, text: &[u8]) -> Result<(), NoMemory>
-    ensures ok { OnOk result (out.new ≡ out.old ++ in_quotes quote text.now) }
+    ensures ok { OnOk result (out.new ≡ out.old ++ quoted_text quote text.now) }
     ensures err { OnErr result (take (length out.old) out.new ≡ out.old) }
 {
     out.push(quote)?;

@@ -1,7 +1,8 @@
 // The programs that rows come from. After `NoMemory` a front of what was to be written may stand behind what was there.
 ghost use Rattle.std.specs.Prelude.{◌≡◌, ◌++◌, length, take, OnErr, OnOk};
 ghost use Rattle.ddl_writing.specs.Canonical.{bit_text, flags_text, format_text, implicit_text, kind_text};
-ghost use Rattle.ddl_writing.specs.Canonical.{pool_text, program_text, settings_text, source_text, times_text, update_text};
+ghost use Rattle.ddl_writing.specs.Canonical.{pool_text, program_text, settings_text, source_text, times_text};
+ghost use Rattle.ddl_writing.specs.Canonical.{update_text};
 
 use crate::quoted::push_string;
 use crate::words::{Word, push_numbered, push_word};

@@ -2,7 +2,8 @@
 ghost use Rattle.std.specs.Prelude.{◌≡◌, ◌≢◌, ◌++◌, length, take, OnErr, OnOk};
 ghost use Rattle.dict_value.specs.Values.{FitsColumn, value_text};
 ghost use Rattle.dict_value.specs.declared.value.Value.TheVariants.{Null};
-ghost use Rattle.ddl_writing.specs.Canonical.{as_string, base_text, decimal_text, literal_text, type_text, typed_text};
+ghost use Rattle.ddl_writing.specs.Canonical.{as_string, base_text, decimal_type_text, literal_text, type_text};
+ghost use Rattle.ddl_writing.specs.Canonical.{typed_text};
 
 use crate::quoted::{push_name, push_string};
 use dict_value::{AttrType, Bytes, ColType, NoMemory, Value, push_number, write_value};
@@ -10,7 +11,7 @@ use dict_value::{AttrType, Bytes, ColType, NoMemory, Value, push_number, write_v
 /// Appends the type of a Decimal.
 #[tactic(auto, using(dict_value::proofs::Fronts::front_stays))]
 fn push_decimal(out: &mut Bytes, digits: u8, scale: u8) -> Result<(), NoMemory>
-    ensures ok { OnOk result (out.new ≡ out.old ++ decimal_text digits scale) }
+    ensures ok { OnOk result (out.new ≡ out.old ++ decimal_type_text digits scale) }
     ensures err { OnErr result (take (length out.old) out.new ≡ out.old) }
 {
     out.extend(b"Decimal(")?;

@@ -2,7 +2,8 @@
 ghost use Rattle.std.specs.Prelude.{◌≡◌, ◌++◌, length, take, OnErr, OnOk};
 ghost use Rattle.std.specs.List.{flat_map};
 ghost use Rattle.ddl_writing.specs.Canonical.{DefaultsFit, HasNoFault, and_then, arguments_text, definition_text};
-ghost use Rattle.ddl_writing.specs.Canonical.{function_text, item_text, other_arguments_text, signature_text, table_text, typed_text};
+ghost use Rattle.ddl_writing.specs.Canonical.{function_text, item_text, other_arguments_text, signature_text};
+ghost use Rattle.ddl_writing.specs.Canonical.{table_text, typed_text};
 ghost use Rattle.dict_schema.specs.Judging.{AreClear};
 ghost use Rattle.dict_schema.specs.Table.{table};
 

@@ -5,7 +5,7 @@ use Rattle.std.proofs.lemmas.List.Elements.{All-cons, All-nil}
 use Rattle.std.proofs.lemmas.Slice.Zip.{AllZip-long}
 use Rattle.dict_value.specs.declared.value.Field.{Field}
 use Rattle.row_text.specs.TabRow.{IsTabRow}
-use Rattle.wire_text.specs.Requests.{AsksFor, IsLookup as IsLookupHead, asked_above}
+use Rattle.wire_text.specs.Requests.{AsksFor, IsVerbHead as IsLookupHead, asked_above}
 use Rattle.wire_text.specs.declared.request.Asked.{Asked}
 use Rattle.wire_text.specs.declared.request.Request.{Request}
 use Rattle.wire_text.specs.declared.request.Request.TheVariants as request

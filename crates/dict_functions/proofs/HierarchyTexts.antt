@@ -12,7 +12,7 @@ use Rattle.wire_text.specs.declared.request.Verb.{Verb}
 use Rattle.wire_text.specs.declared.request.Verb.TheVariants as verb
 use Rattle.dict_functions.specs.Asking.{asks_hierarchy}
 use Rattle.dict_functions.specs.Keys.{ReadsNumbers}
-use Rattle.dict_functions.specs.Values.{AnswersVerb, IsHierarchyText, IsText, IsTextBy, flag, listed}
+use Rattle.dict_functions.specs.Values.{AnswersVerb, IsHierarchyText, IsText, IsTextBy, flag, list_text}
 use Rattle.dict_functions.specs.steps.Lines.{IsFromText, key_count}
 
 -- the last verb
@@ -57,9 +57,9 @@ module _ (c : Contents) (q : Asked) where
       → IsText c q fields text
   hierarchy-text fields text asks is = hierarchy-by q.verb c q fields text asks is
 
-  -- what is listed for one key
+  -- what is list_text for one key
   pub from-text : (fields : List Field) (key : ℕ) (text numbers : List ℕ) → ReadsNumbers fields (key ∷ [])
-      → IsFromText q c key (listed numbers) → text ≡ listed numbers → IsHierarchyText c q fields text
+      → IsFromText q c key (list_text numbers) → text ≡ list_text numbers → IsHierarchyText c q fields text
   from-text fields key text numbers reads from e = record {
     column = from.0;
     numbers = key ∷ [];
@@ -70,19 +70,19 @@ module _ (c : Contents) (q : Asked) where
 
   module _ (hier : Hier) (of : IsHierarchyOf c.definition c.rows hier) where
     pub from-chain : (key : ℕ) → q.verb ≡ verb.Hierarchy → (numbers : List ℕ)
-        → IsChain (numbers_of c.rows) (parents_of c.definition of.0 c.rows) key numbers → IsFromText q c key (listed numbers)
+        → IsChain (numbers_of c.rows) (parents_of c.definition of.0 c.rows) key numbers → IsFromText q c key (list_text numbers)
     from-chain key is numbers chain =
-        (of.0, of.1, subst (λ v. AnswersVerb v q.level (numbers_of c.rows) (parents_of c.definition of.0 c.rows) (key ∷ []) (listed numbers)) (sym is) (numbers, chain, refl))
+        (of.0, of.1, subst (λ v. AnswersVerb v q.level (numbers_of c.rows) (parents_of c.definition of.0 c.rows) (key ∷ []) (list_text numbers)) (sym is) (numbers, chain, refl))
 
     pub from-children : (key : ℕ) → q.verb ≡ verb.Children → (numbers : List ℕ)
-        → IsRisingListOf (IsDescendant (numbers_of c.rows) (parents_of c.definition of.0 c.rows) key 1) numbers → IsFromText q c key (listed numbers)
+        → IsRisingListOf (IsDescendant (numbers_of c.rows) (parents_of c.definition of.0 c.rows) key 1) numbers → IsFromText q c key (list_text numbers)
     from-children key is numbers below =
-        (of.0, of.1, subst (λ v. AnswersVerb v q.level (numbers_of c.rows) (parents_of c.definition of.0 c.rows) (key ∷ []) (listed numbers)) (sym is) (numbers, below, refl))
+        (of.0, of.1, subst (λ v. AnswersVerb v q.level (numbers_of c.rows) (parents_of c.definition of.0 c.rows) (key ∷ []) (list_text numbers)) (sym is) (numbers, below, refl))
 
     pub from-below : (key : ℕ) → q.verb ≡ verb.Descendants → (numbers : List ℕ)
-        → IsRisingListOf (IsDescendant (numbers_of c.rows) (parents_of c.definition of.0 c.rows) key q.level) numbers → IsFromText q c key (listed numbers)
+        → IsRisingListOf (IsDescendant (numbers_of c.rows) (parents_of c.definition of.0 c.rows) key q.level) numbers → IsFromText q c key (list_text numbers)
     from-below key is numbers below =
-        (of.0, of.1, subst (λ v. AnswersVerb v q.level (numbers_of c.rows) (parents_of c.definition of.0 c.rows) (key ∷ []) (listed numbers)) (sym is) (numbers, below, refl))
+        (of.0, of.1, subst (λ v. AnswersVerb v q.level (numbers_of c.rows) (parents_of c.definition of.0 c.rows) (key ∷ []) (list_text numbers)) (sym is) (numbers, below, refl))
 
     -- whether a key is in the chain of another
     is-in : (key ancestor : ℕ) (b : Bool) → (IsTrue b ↔ IsIn (numbers_of c.rows) (parents_of c.definition of.0 c.rows) key ancestor)

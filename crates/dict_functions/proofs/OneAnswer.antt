@@ -41,7 +41,7 @@ use Rattle.dict_functions.specs.Asking.{asks_hierarchy}
 use Rattle.dict_functions.specs.Keys.{IsFirstWithout, ReadsKey}
 use Rattle.dict_functions.specs.Refusals.{HasKey, IsFitting, IsRefusal, IsUnfitting}
 use Rattle.dict_functions.specs.Replies.{IsReplyOf}
-use Rattle.dict_functions.specs.Values.{AnswersVerb, IsAttributeText, IsBelowText, IsCellText, IsChainText, IsHasText, IsHierarchyText, IsInText, IsText, IsTextBy, OfHierarchy, StandsIn, StandsInText, flag, listed}
+use Rattle.dict_functions.specs.Values.{AnswersVerb, IsAttributeText, IsBelowText, IsCellText, IsChainText, IsHasText, IsHierarchyText, IsInText, IsText, IsTextBy, OfHierarchy, StandsIn, StandsInText, flag, list_text}
 use Rattle.dict_functions.proofs.OneKey.{finds-once, key-once, numbers-once}
 use Rattle.dict_functions.proofs.SoundColumns.{named-once, named-place, parent-place}
 
@@ -136,7 +136,7 @@ module _ (keys : List ℕ) (parents : List Parent) where
   chain-once : (numbers a b : List ℕ) → IsChainText keys parents numbers a → IsChainText keys parents numbers b → a ≡ b
   chain-once [] a b p q = absurd p
   chain-once (key ∷ []) a b (chain, is, text) (other, was, written) =
-      text ∙ ap listed (chain-one keys parents key chain other is was) ∙ sym written
+      text ∙ ap list_text (chain-one keys parents key chain other is was) ∙ sym written
   chain-once (key ∷ more ∷ numbers) a b p q = absurd p
 
   in-once : (numbers a b : List ℕ) → IsInText keys parents numbers a → IsInText keys parents numbers b → a ≡ b
@@ -151,7 +151,7 @@ module _ (keys : List ℕ) (parents : List Parent) where
   below-once : (level : ℕ) (numbers a b : List ℕ) → IsBelowText level keys parents numbers a → IsBelowText level keys parents numbers b → a ≡ b
   below-once level [] a b p q = absurd p
   below-once level (key ∷ []) a b (below, is, text) (other, was, written) =
-      text ∙ ap listed (rising-once (IsDescendant keys parents key level) below other is was) ∙ sym written
+      text ∙ ap list_text (rising-once (IsDescendant keys parents key level) below other is was) ∙ sym written
   below-once level (key ∷ more ∷ numbers) a b p q = absurd p
 
   verb-once : (v : Verb) (level : ℕ) (numbers a b : List ℕ) → AnswersVerb v level keys parents numbers a → AnswersVerb v level keys parents numbers b → a ≡ b

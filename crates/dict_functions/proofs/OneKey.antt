@@ -20,14 +20,14 @@ use Rattle.dict_value.specs.declared.value.Field.{Field}
 use Rattle.dict_value.specs.declared.value.Field.TheVariants as field
 use Rattle.dict_value.specs.declared.value.Value.{Value}
 use Rattle.dict_value.specs.declared.value.Value.TheVariants.{U}
-use Rattle.dict_version.specs.Keys.{end_in, key_lists_of, numbers_of, ranges_of, texts_of}
+use Rattle.dict_version.specs.Keys.{range_end, key_lists_of, numbers_of, ranges_of, key_texts}
 use Rattle.dict_version.specs.Lookups.{FindsBy}
 use Rattle.dict_version.specs.declared.key.Key.{Key}
 use Rattle.dict_version.specs.declared.key.Key.TheVariants as key
 use Rattle.dict_version.specs.declared.lookup.LookupBy.{LookupBy}
 use Rattle.dict_version.specs.declared.lookup.LookupBy.TheVariants as by
 use Rattle.ip_trie.specs.FindByAddress.{FindsByAddress, IsLongest}
-use Rattle.range_layout.specs.FindByRange.{FindsByRange, IsLowerEnd, IsLowerStart, IsTaken, Precedes}
+use Rattle.range_layout.specs.FindByRange.{FindsByRange, IsLowerEnd, IsLowerStart, IsFirstHolding, Precedes}
 use Rattle.range_layout.specs.declared.ends.End.{End}
 use Rattle.range_layout.specs.declared.ends.End.TheVariants.{Free, At}
 use Rattle.range_layout.specs.declared.ends.Ends.{Ends}
@@ -71,7 +71,7 @@ point-once d f a b p q =
     let base : p.base ≡ q.base = same_Some p.base q.base (sym p.typed ∙ q.typed) in
     let read : Ok p.value ≡ Ok q.value = sym p.read ∙ ap (λ (t : ColType). text_reading t p.text) base ∙ ap (text_reading q.base) text ∙ q.read in
     let value : p.value ≡ q.value = cc in
-    let number : At a ≡ At b = sym p.number ∙ ap (λ v. end_in (Some v)) value ∙ q.number in cc
+    let number : At a ≡ At b = sym p.number ∙ ap (λ v. range_end (Some v)) value ∙ q.number in cc
 
 no-push : {X : Type 0} (xs : List X) (x : X) → [] ≡ xs ++ x ∷ [] → ⊥
 no-push [] x e = cc
@@ -209,6 +209,6 @@ finds-once (by.SmallNumber most) d rows (key.Simple n) a b p q = one-found (numb
 finds-once by.Number d rows (key.Simple n) a b p q = one-found (numbers_of rows) n a b p q
 finds-once by.KeyList d rows (key.List values) a b p q = one-found (key_lists_of d rows) values a b p q
 finds-once (by.Range strategy) d rows (key.Ranged values point) a b p q = ranged-once (key_lists_of d rows) (ranges_of d rows) strategy values point a b p q
-finds-once by.Address d rows (key.V4 bits) a b p q = addressed-once (texts_of rows) (address.V4 bits) a b p q
-finds-once by.Address d rows (key.V6 bits) a b p q = addressed-once (texts_of rows) (address.V6 bits) a b p q
+finds-once by.Address d rows (key.V4 bits) a b p q = addressed-once (key_texts rows) (address.V4 bits) a b p q
+finds-once by.Address d rows (key.V6 bits) a b p q = addressed-once (key_texts rows) (address.V6 bits) a b p q
 finds-once looked d rows k a b p q = p ∙ sym q

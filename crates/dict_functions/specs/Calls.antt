@@ -26,9 +26,9 @@ abbrev pub argument_types : FunctionDef → List AttrType
 argument_types f = map (λ argument. argument.ty) f.args
 
 -- The rows of arguments of a call, or the first reason why it is refused: a line has none, or a row is too long.
-abbrev pub AreArguments : FunctionDef → Asked → Result (List (List Value)) ReplyFault → Type 0
-AreArguments f q (Ok rows) = WriteRows f.source.format (argument_types f) q.lines rows
-AreArguments f q (Err e) = AreUnsent f.source.format (argument_types f) q.lines fault.BadArgument e
+abbrev pub AreCallArguments : FunctionDef → Asked → Result (List (List Value)) ReplyFault → Type 0
+AreCallArguments f q (Ok rows) = WriteRows f.source.format (argument_types f) q.lines rows
+AreCallArguments f q (Err e) = AreUnsent f.source.format (argument_types f) q.lines fault.BadArgument e
 
 -- one value for each row of arguments, in order, of the type that the function returns
 abbrev pub AreGiven : FunctionDef → List (List Value) → List Value → Type 0

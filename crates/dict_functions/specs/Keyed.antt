@@ -1,5 +1,6 @@
 -- Lookups in a dictionary whose rows are fetched by key: the keys of a request, and the answer from what was fetched.
-use Rattle.std.specs.Prelude.{◌≡◌, ◌-◌, ◌∷◌, ◌⊎◌, [], if◌then◌else◌, ℕ, List, Bool, true, false, Some, Result, Ok, Err, length, slice_get}
+use Rattle.std.specs.Prelude.{◌≡◌, ◌-◌, ◌∷◌, ◌⊎◌, [], if◌then◌else◌, ℕ, List, Bool, true, false, Some, Result, Ok}
+use Rattle.std.specs.Prelude.{Err, length, slice_get}
 use Rattle.std.specs.List.{AllZip}
 use Rattle.cache_layout.specs.Fetching.{FitsReply, key_types}
 use Rattle.dict_schema.specs.declared.definition.Column.{Column}

@@ -16,7 +16,7 @@ use Rattle.dict_value.specs.declared.value.Field.{Field}
 use Rattle.dict_value.specs.declared.value.Field.TheVariants.{Text}
 use Rattle.dict_value.specs.declared.value.Value.{Value}
 use Rattle.dict_value.specs.declared.value.Value.TheVariants.{U}
-use Rattle.dict_version.specs.Keys.{end_in}
+use Rattle.dict_version.specs.Keys.{range_end}
 use Rattle.dict_version.specs.Lookups.{lookup_by}
 use Rattle.dict_version.specs.declared.key.Key.{Key}
 use Rattle.dict_version.specs.declared.key.Key.TheVariants as key
@@ -51,7 +51,7 @@ pub record ReadsPoint (d : Definition) (field : Field) (point : ℤ) : Type 0 wh
   pub is_text : field ≡ Text text
   pub typed : point_type d d.range ≡ Some base
   pub read : text_reading base text ≡ Ok value
-  pub number : end_in (Some value) ≡ At point
+  pub number : range_end (Some value) ≡ At point
 
 -- the values of a key, and a point behind them
 pub record ReadsRanged (d : Definition) (fields : List Field) (values : List Value) (point : ℤ) : Type 0 where

@@ -1,5 +1,6 @@
 -- What a lookup gives for the fields of one line, by the definition and the rows alone.
-use Rattle.std.specs.Prelude.{◌≡◌, ◌∷◌, ◌++◌, ◌⊎◌, [], ℕ, List, Bool, true, false, Option, Some, None, Ok, codes, decimal}
+use Rattle.std.specs.Prelude.{◌≡◌, ◌∷◌, ◌++◌, ◌⊎◌, [], ℕ, List, Bool, true, false, Option, Some, None, Ok, codes}
+use Rattle.std.specs.Prelude.{decimal}
 use Rattle.std.specs.Prelude.{is_some, map}
 use Rattle.std.specs.List.{join_with_byte}
 use Rattle.dict_schema.specs.declared.definition.Column.{Column}
@@ -65,8 +66,8 @@ pub record IsHasText (c : Contents) (fields : List Field) (text : List ℕ) : Ty
   pub is : text ≡ flag (is_some found)
 
 -- a list of numbers as a reply has it
-abbrev pub listed : List ℕ → List ℕ
-listed numbers = codes "[" ++ (join_with_byte COMMA (map decimal numbers) ++ codes "]")
+abbrev pub list_text : List ℕ → List ℕ
+list_text numbers = codes "[" ++ (join_with_byte COMMA (map decimal numbers) ++ codes "]")
 
 -- what a hierarchy is asked: the keys of the rows and their parents, what the line asks by, and the answer's text
 abbrev pub OfHierarchy : Type 1
@@ -74,7 +75,7 @@ OfHierarchy = List ℕ → List Parent → List ℕ → List ℕ → Type 0
 
 abbrev pub IsChainText : OfHierarchy
 IsChainText keys parents (key ∷ []) text =
-    (chain : List ℕ) × IsChain keys parents key chain × (text ≡ listed chain)
+    (chain : List ℕ) × IsChain keys parents key chain × (text ≡ list_text chain)
 IsChainText keys parents _ text = ⊥
 
 abbrev pub IsInText : OfHierarchy
@@ -85,7 +86,7 @@ IsInText keys parents _ text = ⊥
 -- the descendants of a key at a level
 abbrev pub IsBelowText : ℕ → OfHierarchy
 IsBelowText level keys parents (key ∷ []) text =
-    (below : List ℕ) × IsRisingListOf (IsDescendant keys parents key level) below × (text ≡ listed below)
+    (below : List ℕ) × IsRisingListOf (IsDescendant keys parents key level) below × (text ≡ list_text below)
 IsBelowText level keys parents _ text = ⊥
 
 -- what a verb asks a hierarchy

@@ -1,5 +1,6 @@
 // Whether what is asked fits a definition.
-ghost use Rattle.std.specs.Prelude.{◌≡◌, ◌≢◌, ◌<◌, ◌^◌, ℕ, Err, IfOk, IsTrue, MatchOption, MatchResult, false, length, true};
+ghost use Rattle.std.specs.Prelude.{◌≡◌, ◌≢◌, ◌<◌, ◌^◌, ℕ, Err, IfOk, IsTrue, MatchOption, MatchResult, false};
+ghost use Rattle.std.specs.Prelude.{length, true};
 ghost use Rattle.dict_schema.specs.declared.definition.Column.{Column as ColumnOf};
 ghost use Rattle.dict_value.specs.Values.{reading};
 ghost use Rattle.dict_value.specs.declared.value.Value.{Value as ValueOf};

@@ -4,7 +4,8 @@ ghost use Rattle.dict_schema.specs.Sound.{IsSoundFunction};
 ghost use Rattle.dict_value.specs.Memory.{UnlessNoMemory};
 ghost use Rattle.dict_value.specs.Values.{FitsColumn};
 ghost use Rattle.dict_value.specs.declared.value.Value.{Value as ValueOf};
-ghost use Rattle.dict_functions.specs.Calls.{AnswersCall, AreArguments, AreGiven, IsCall, IsCallLine, argument_types};
+ghost use Rattle.dict_functions.specs.Calls.{AnswersCall, AreCallArguments, AreGiven, IsCall, IsCallLine};
+ghost use Rattle.dict_functions.specs.Calls.{argument_types};
 ghost use Rattle.dict_functions.specs.steps.Lines.{rows_fault};
 ghost use Rattle.wire_text.specs.declared.reply.Reply.TheVariants.{Refused};
 ghost use Rattle.wire_text.specs.declared.reply.ReplyFault.TheVariants as fault;
@@ -45,7 +46,7 @@ pub fn rows_of(alloc: Global, f: &FunctionDef, q: &Asked) -> Result<ListOf<Row>,
     requires call { IsCall q.now }
     requires sound { IsSoundFunction f.now }
     // Only want of memory may stand in place of the rows, or of the first refusal.
-    ensures { UnlessNoMemory (Err fault.NoMemory) result (AreArguments f.now q.now result) }
+    ensures { UnlessNoMemory (Err fault.NoMemory) result (AreCallArguments f.now q.now result) }
 {
     let Ok(types) = argument_types(alloc, f) else {
         return Err(ReplyFault::NoMemory);
@@ -87,7 +88,7 @@ pub fn answer_function(alloc: Global, f: &FunctionDef, q: &Asked, values: &ListO
     requires call { IsCall q.now }
     requires sound { IsSoundFunction f.now }
     // There is one value for each row of arguments.
-    requires given { (rows : List (List ValueOf)) × AreArguments f.now q.now (Ok rows)
+    requires given { (rows : List (List ValueOf)) × AreCallArguments f.now q.now (Ok rows)
         × AreGiven f.now rows values.now }
     // Only want of memory may stand in place of the answer.
     ensures { UnlessNoMemory (Refused fault.NoMemory) result (AnswersCall f.now q.now values.now result) }

@@ -5,8 +5,8 @@ ghost use Rattle.dict_version.specs.Kept.{IsHierarchyOf};
 ghost use Rattle.dict_functions.specs.Answers.{IsLoadedLine};
 ghost use Rattle.dict_functions.specs.Asking.{asks_hierarchy};
 ghost use Rattle.dict_functions.specs.Refusals.{HasKey};
-ghost use Rattle.dict_functions.specs.Values.{IsHierarchyText, listed};
-ghost use Rattle.dict_functions.specs.steps.Lines.{Answered, IsFromText, key_count, listed_at};
+ghost use Rattle.dict_functions.specs.Values.{IsHierarchyText, list_text};
+ghost use Rattle.dict_functions.specs.steps.Lines.{IsAnsweredBy, IsFromText, key_count, listed_at};
 ghost use Rattle.wire_text.specs.declared.request.Verb.TheVariants as verb;
 ghost use Rattle.wire_text.specs.declared.reply.ReplyFault.TheVariants as fault;
 
@@ -32,7 +32,7 @@ fn push_at(out: &mut Bytes, place: usize, number: u64) -> Result<(), NoMemory>
 
 /// Appends a list of numbers.
 fn push_listed(out: &mut Bytes, numbers: &[u64]) -> Result<(), NoMemory>
-    ensures { OnOk result (out.new ≡ out.old ++ listed numbers.now) }
+    ensures { OnOk result (out.new ≡ out.old ++ list_text numbers.now) }
 {
     out.push(b'[')?;
     for place in 0..numbers.len() {
@@ -55,7 +55,7 @@ impl HierarchyOf<'_> {
         requires verb { IsTrue (asks_hierarchy self.now.q.now.verb) }
         requires apart { self.now.q.now.verb ≢ verb.IsIn }
         requires hier { IsHierarchyOf self.now.version.now.definition self.now.version.now.rows self.now.hier.now }
-        ensures { IfOk result (λ numbers. IsFromText self.now.q.now self.now.version.now key (listed numbers)) }
+        ensures { IfOk result (λ numbers. IsFromText self.now.q.now self.now.version.now key (list_text numbers)) }
     {
         match self.q.verb {
             Verb::Hierarchy => self.hier.chain(alloc, key),
@@ -150,7 +150,7 @@ pub(crate) fn hierarchy_lines(
     requires verb { IsTrue (asks_hierarchy q.now.verb) }
     requires few { length q.now.lines < 2 ^ 32 }
     requires counts { All (λ fields. length fields ≡ key_count q.now.verb) q.now.lines }
-    ensures { UnlessNoMemory (Err fault.NoMemory) result (Answered version.now q.now result) }
+    ensures { UnlessNoMemory (Err fault.NoMemory) result (IsAnsweredBy version.now q.now result) }
 {
     let Some(hier) = version.hier() else {
         return Err(ReplyFault::WrongLayout);

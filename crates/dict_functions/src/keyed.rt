@@ -1,5 +1,6 @@
 // Lookups in a dictionary whose rows are fetched by key.
-ghost use Rattle.std.specs.Prelude.{◌≡◌, ◌≢◌, ◌<◌, ◌^◌, All, Err, IfOk, IsTrue, List, MatchResult, Ok, false, length, ⊤};
+ghost use Rattle.std.specs.Prelude.{◌≡◌, ◌≢◌, ◌<◌, ◌^◌, All, Err, IfOk, IsTrue, List, MatchResult, Ok, false};
+ghost use Rattle.std.specs.Prelude.{length, ⊤};
 ghost use Rattle.std.specs.List.{AllZip};
 ghost use Rattle.cache_layout.specs.Fetching.{FitsReply};
 ghost use Rattle.dict_schema.specs.Parts.{is_keyed_layout};

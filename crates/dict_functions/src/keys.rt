@@ -3,10 +3,11 @@ ghost use Rattle.std.specs.Prelude.{◌≡◌, ◌∷◌, ◌++◌, [], ℕ, ℤ
 ghost use Rattle.cache_layout.specs.Fetching.{key_types};
 ghost use Rattle.dict_value.specs.declared.value.Field.TheVariants.{Text};
 ghost use Rattle.dict_value.specs.declared.value.Value.{Value as ValueOf};
-ghost use Rattle.dict_version.specs.Keys.{end_in};
+ghost use Rattle.dict_version.specs.Keys.{range_end};
 ghost use Rattle.dict_version.specs.declared.key.Key.{Key as KeyOf};
 ghost use Rattle.dict_functions.specs.steps.Lines.{is_by_number};
-ghost use Rattle.dict_functions.specs.Keys.{ReadsAddress, ReadsAs, ReadsKey, ReadsNumber, ReadsNumbers, ReadsPoint, ReadsRanged, point_type};
+ghost use Rattle.dict_functions.specs.Keys.{ReadsAddress, ReadsAs, ReadsKey, ReadsNumber, ReadsNumbers, ReadsPoint};
+ghost use Rattle.dict_functions.specs.Keys.{ReadsRanged, point_type};
 ghost use Rattle.range_layout.specs.declared.ends.End.TheVariants.{At};
 ghost use Rattle.dict_value.specs.Values.{FitsColumn};
 ghost use Rattle.std.specs.List.{AllZip};
@@ -113,8 +114,8 @@ fn point_type(d: &Definition) -> Option<ColType>
 
 /// The number that a value of a range is: a number, a day or a second.
 fn point_in(value: &Value) -> Option<i128>
-    ensures { MatchOption result ((point : ℤ) → ¬ (end_in (Some value.now) ≡ At point))
-        (λ point. end_in (Some value.now) ≡ At point) }
+    ensures { MatchOption result ((point : ℤ) → ¬ (range_end (Some value.now) ≡ At point))
+        (λ point. range_end (Some value.now) ≡ At point) }
 {
     match value {
         Value::U(number) => Some(i128::from(*number)),

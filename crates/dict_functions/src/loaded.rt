@@ -16,7 +16,8 @@ ghost use Rattle.dict_functions.specs.Values.{IsAttributeText, IsHasText};
 ghost use Rattle.wire_text.specs.declared.reply.Reply.TheVariants.{Refused};
 ghost use Rattle.wire_text.specs.declared.reply.ReplyFault.TheVariants as fault;
 ghost use Rattle.wire_text.specs.declared.request.Verb.TheVariants as verb;
-ghost use Rattle.dict_functions.specs.steps.Lines.{Answered, HasCell, HasCellText, HasLine, HasTextOf, IsAttributeOf, IsRowFor};
+ghost use Rattle.dict_functions.specs.steps.Lines.{IsAnsweredBy, HasCell, HasCellText, HasLine, HasTextOf};
+ghost use Rattle.dict_functions.specs.steps.Lines.{IsAttributeOf, IsRowFor};
 ghost use Rattle.dict_functions.specs.steps.Lines.{MayStand, is_by_number};
 
 use crate::asking::{Attribute, asks_hierarchy, attribute_of, key_fault};
@@ -67,7 +68,8 @@ impl AttributeOf<'_> {
         requires of { IsAttributeOf self.now.version.now.definition self.now.q.now self.now.attribute.now }
         requires cell { self.now.cell ≡ attribute_place self.now.version.now.definition self.now.attribute.now.place }
         requires sound { IsSound self.now.version.now.definition }
-        ensures { IfOk result (HasTextOf self.now.version.now self.now.q.now self.now.attribute.now self.now.cell found.now) }
+        ensures { IfOk result
+            (HasTextOf self.now.version.now self.now.q.now self.now.attribute.now self.now.cell found.now) }
     {
         match found {
             Some(cell) => {
@@ -317,7 +319,7 @@ fn attribute_lines(
 ) -> Result<ListOf<Line>, ReplyFault>
     requires verb { IsTrue (asks_attribute q.now.verb) }
     requires few { length q.now.lines < 2 ^ 32 }
-    ensures { UnlessNoMemory (Err fault.NoMemory) result (Answered version.now q.now result) }
+    ensures { UnlessNoMemory (Err fault.NoMemory) result (IsAnsweredBy version.now q.now result) }
 {
     let d = version.definition();
     let attribute = match attribute_of(alloc, d, q) {
@@ -348,7 +350,7 @@ fn has_lines(
 ) -> Result<ListOf<Line>, ReplyFault>
     requires verb { q.now.verb ≡ verb.Has }
     requires few { length q.now.lines < 2 ^ 32 }
-    ensures { UnlessNoMemory (Err fault.NoMemory) result (Answered version.now q.now result) }
+    ensures { UnlessNoMemory (Err fault.NoMemory) result (IsAnsweredBy version.now q.now result) }
 {
     let Ok(types) = key_types(alloc, version.definition()) else {
         return Err(ReplyFault::NoMemory);
@@ -370,7 +372,7 @@ fn lines_of(
     q: &Asked,
 ) -> Result<ListOf<Line>, ReplyFault>
     requires { IsLookup q.now }
-    ensures { UnlessNoMemory (Err fault.NoMemory) result (Answered version.now q.now result) }
+    ensures { UnlessNoMemory (Err fault.NoMemory) result (IsAnsweredBy version.now q.now result) }
 {
     if asks_hierarchy(q.verb) {
         return hierarchy_lines(alloc, version, q);

@@ -1,5 +1,6 @@
 // Rows of values for a program, read from the lines of a request.
-ghost use Rattle.std.specs.Prelude.{◌≡◌, ◌≢◌, ◌++◌, ◌<◌, ◌^◌, [], ℕ, All, Any, IfErr, IfOk, Ok, OnErr, OnOk, false, length, true, ⊤};
+ghost use Rattle.std.specs.Prelude.{◌≡◌, ◌≢◌, ◌++◌, ◌<◌, ◌^◌, [], ℕ, All, Any, IfErr, IfOk, Ok, OnErr, OnOk, false};
+ghost use Rattle.std.specs.Prelude.{length, true, ⊤};
 ghost use Rattle.std.specs.List.{AllZip};
 ghost use Rattle.cache_layout.specs.Fetching.{CanBeSent};
 ghost use Rattle.dict_value.specs.Values.{FitsColumn};

@@ -1,5 +1,6 @@
 -- The state of a desk over its parts, and what its calls do.
-use Rattle.std.specs.Prelude.{◌≡◌, ◌<◌, ℕ, zero, suc, ◌+◌, List, [], ◌∷◌, All, Bool, true, false, Option, Some, Result, Ok, Err, length, slice_get, slice_set}
+use Rattle.std.specs.Prelude.{◌≡◌, ◌<◌, ℕ, zero, suc, ◌+◌, List, [], ◌∷◌, All, Bool, true, false, Option, Some}
+use Rattle.std.specs.Prelude.{Result, Ok, Err, length, slice_get, slice_set}
 use Rattle.std.below.core.specs.declared.int.u32.TheConstants.{MAX}
 use Rattle.child_io.specs.declared.child.Script.{Script}
 use Rattle.dict_io.specs.Outside.{NextMoment}
@@ -8,7 +9,7 @@ use Rattle.dict_schema.specs.Sound.{IsSoundItem}
 use Rattle.dict_schema.specs.declared.definition.Definition.{Definition}
 use Rattle.dict_schema.specs.declared.definition.Item.{Item}
 use Rattle.dict_schema.specs.declared.definition.Item.TheVariants.{Dictionary, Function}
-use Rattle.dict_session.specs.Acts.{Act, Moment, Before, Entered, Taught, Reloaded, Keyed, Called, Configured}
+use Rattle.dict_session.specs.Acts.{DeskCall, Moment, Before, Entered, Taught, Reloaded, Keyed, Called, Configured}
 use Rattle.dict_session.specs.Facts.{Facts}
 use Rattle.dict_session.specs.declared.desk.ConfigEnd.{ConfigEnd}
 use Rattle.dict_session.specs.declared.desk.ConfigEnd.TheVariants as config
@@ -186,7 +187,7 @@ pub data Rereads {D F : Type 0} (moves : Moves D F) (old : OverState D F) (now :
 
 -- ---- the calls of the desk
 
-abbrev pub OverDid : {D F : Type 0} → Moves D F → OverState D F → Act → OverState D F → Type 0
+abbrev pub OverDid : {D F : Type 0} → Moves D F → OverState D F → DeskCall → OverState D F → Type 0
 OverDid moves old (Moment now) new = Ticked old now new
 OverDid moves old (Before now) new =
     (old.reloads ≡ true → DueUpTo moves now (length old.dictionaries) old new) × (old.reloads ≡ false → new ≡ old)

@@ -1,5 +1,6 @@
 -- A dictionary of one thread: what it keeps, and what its calls do.
-use Rattle.std.specs.Prelude.{◌≡◌, ◌↔◌, ◌⊎◌, ℕ, suc, List, [], ◌∷◌, Bool, Option, Some, None, Result, Ok, Err, IsTrue, fold, length}
+use Rattle.std.specs.Prelude.{◌≡◌, ◌↔◌, ◌⊎◌, ℕ, suc, List, [], ◌∷◌, Bool, Option, Some, None, Result, Ok, Err}
+use Rattle.std.specs.Prelude.{IsTrue, fold, length}
 use Rattle.std.specs.Option.{ForSome}
 use Rattle.child_io.specs.Runs.{RunTold}
 use Rattle.child_io.specs.Told.{StartsTold}

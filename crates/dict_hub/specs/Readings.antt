@@ -15,7 +15,7 @@ abbrev pub most_definitions : ℕ
 most_definitions = 4194304
 
 -- the text has no reading: the line and the place of its first fault, in words
-pub record IsRefused (text : List ℕ) (line place : ℕ) (words : List ℕ) : Type 0 where
+pub record IsRefusedFile (text : List ℕ) (line place : ℕ) (words : List ℕ) : Type 0 where
   pub fault : DdlFault
   pub faulty : IsFaulty text line fault
   pub place_is : place ≡ place_of_fault fault
@@ -24,7 +24,7 @@ pub record IsRefused (text : List ℕ) (line place : ℕ) (words : List ℕ) : T
 -- what a text within the limit gives: its items, or why it has none
 abbrev pub TextGives : List ℕ → Result (List Item) ConfigEnd → Type 0
 TextGives text (Ok items) = TextDefines text items
-TextGives text (Err (Refused line place words)) = IsRefused text line place words.now
+TextGives text (Err (Refused line place words)) = IsRefusedFile text line place words.now
 TextGives text (Err NoMemory) = Unit {0}
 TextGives text (Err _) = ⊥
 

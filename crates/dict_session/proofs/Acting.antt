@@ -5,8 +5,8 @@ use Rattle.std.proofs.lemmas.Bool.{eqb-true}
 use Rattle.std.specs.List.{AllByRecursion}
 use Rattle.std.specs.Prelude.{IfOk}
 use mathlib.Core.List.{IsPrefix}
-use Rattle.dict_session.specs.Acts.{Act, Moment, Before, Entered, Taught, Reloaded, Keyed, Called, Configured, Leads}
-use Rattle.dict_session.specs.Floors.{IsRight, IsSeenIn, IsVersionIn, KeepsFloor, Moved, NeverFalls, floor_after, raised}
+use Rattle.dict_session.specs.Acts.{DeskCall, Moment, Before, Entered, Taught, Reloaded, Keyed, Called, Configured, Leads}
+use Rattle.dict_session.specs.Floors.{IsRight, IsSeenIn, IsVersionIn, KeepsFloor, Moved, NeverFalls, floor_after, floor_raised}
 use Rattle.dict_schema.specs.declared.definition.Definition.{Definition}
 use Rattle.dict_schema.specs.declared.definition.FunctionDef.{FunctionDef}
 use Rattle.dict_session.specs.Facts.{EachFetched, EachReturned, Facts, Grows}
@@ -63,7 +63,7 @@ if_top : (d e : ℕ) (b : Bool) (floor n : ℕ) (top : ℕ → ℕ) → (d == e)
 if_top d e true floor n top is h k = let same = ap top (eqb-true d e is) in omega (arith, same)
 if_top d e false floor n top is h k = h
 
-raised_mono : (e low high : ℕ) (act : Act) → low ≤ high → raised e low act ≤ raised e high act
+raised_mono : (e low high : ℕ) (act : DeskCall) → low ≤ high → floor_raised e low act ≤ floor_raised e high act
 raised_mono e low high (Moment now) h = h
 raised_mono e low high (Before now) h = h
 raised_mono e low high (Entered d (Ok seen)) h = if_max (d == e) low high seen.number seen.number h (omega arith)
@@ -76,7 +76,7 @@ raised_mono e low high (Keyed d now keys answer) h = h
 raised_mono e low high (Called f rows answer) h = h
 raised_mono e low high (Configured now answer) h = h
 
-keeps_lower : (e low high : ℕ) (act : Act) → low ≤ high → KeepsFloor e high act → KeepsFloor e low act
+keeps_lower : (e low high : ℕ) (act : DeskCall) → low ≤ high → KeepsFloor e high act → KeepsFloor e low act
 keeps_lower e low high (Moment now) h k = tt
 keeps_lower e low high (Before now) h k = tt
 keeps_lower e low high (Entered d (Ok seen)) h k = λ same. let above = k same in omega arith
@@ -87,28 +87,28 @@ keeps_lower e low high (Keyed d now keys answer) h k = tt
 keeps_lower e low high (Called f rows answer) h k = tt
 keeps_lower e low high (Configured now answer) h k = tt
 
-pub floor_mono : (e low high : ℕ) (acts : List Act) → low ≤ high → floor_after e low acts ≤ floor_after e high acts
+pub floor_mono : (e low high : ℕ) (acts : List DeskCall) → low ≤ high → floor_after e low acts ≤ floor_after e high acts
 floor_mono e low high [] h = h
-floor_mono e low high (act ∷ acts) h = floor_mono e (raised e low act) (raised e high act) acts (raised_mono e low high act h)
+floor_mono e low high (act ∷ acts) h = floor_mono e (floor_raised e low act) (floor_raised e high act) acts (raised_mono e low high act h)
 
-never_lower : (e low high : ℕ) (acts : List Act) → low ≤ high → NeverFalls e high acts → NeverFalls e low acts
+never_lower : (e low high : ℕ) (acts : List DeskCall) → low ≤ high → NeverFalls e high acts → NeverFalls e low acts
 never_lower e low high [] h k = tt
 never_lower e low high (act ∷ acts) h k = (
   keeps_lower e low high act h k.0,
-  never_lower e (raised e low act) (raised e high act) acts (raised_mono e low high act h) k.1,
+  never_lower e (floor_raised e low act) (floor_raised e high act) acts (raised_mono e low high act h) k.1,
 )
 
-pub floor_append : (e floor : ℕ) (xs ys : List Act) → floor_after e floor (xs ++ ys) ≡ floor_after e (floor_after e floor xs) ys
+pub floor_append : (e floor : ℕ) (xs ys : List DeskCall) → floor_after e floor (xs ++ ys) ≡ floor_after e (floor_after e floor xs) ys
 floor_append e floor [] ys = refl
-floor_append e floor (act ∷ xs) ys = floor_append e (raised e floor act) xs ys
+floor_append e floor (act ∷ xs) ys = floor_append e (floor_raised e floor act) xs ys
 
-never_append : (e floor : ℕ) (xs ys : List Act) → NeverFalls e floor xs → NeverFalls e (floor_after e floor xs) ys → NeverFalls e floor (xs ++ ys)
+never_append : (e floor : ℕ) (xs ys : List DeskCall) → NeverFalls e floor xs → NeverFalls e (floor_after e floor xs) ys → NeverFalls e floor (xs ++ ys)
 never_append e floor [] ys h k = k
-never_append e floor (act ∷ xs) ys h k = (h.0, never_append e (raised e floor act) xs ys h.1 k)
+never_append e floor (act ∷ xs) ys h k = (h.0, never_append e (floor_raised e floor act) xs ys h.1 k)
 
 -- ---- acts
 
-leads_append : {S : Type 0} (did : S → Act → S → Type 0) (s t u : S) (xs ys : List Act) → Leads did s xs t → Leads did t ys u → Leads did s (xs ++ ys) u
+leads_append : {S : Type 0} (did : S → DeskCall → S → Type 0) (s t u : S) (xs ys : List DeskCall) → Leads did s xs t → Leads did t ys u → Leads did s (xs ++ ys) u
 leads_append did s t u [] ys h k = subst (λ z. Leads did z ys u) h k
 leads_append did s t u (act ∷ xs) ys h k = (h.0, h.1, leads_append did h.0 t u xs ys h.2 k)
 
@@ -117,7 +117,7 @@ all_append P [] ys h k = k
 all_append P (x ∷ xs) ys h k = (h.0, all_append P xs ys h.1 k)
 
 module _ {S : Type 0} (facts : Facts S) where
-  right_grows : (t u : S) → Grows facts t u → (act : Act) → IsRight facts t act → IsRight facts u act
+  right_grows : (t u : S) → Grows facts t u → (act : DeskCall) → IsRight facts t act → IsRight facts u act
   right_grows t u g (Moment now) is = tt
   right_grows t u g (Before now) is = tt
   right_grows t u g (Entered d (Ok seen)) is = seen_grows (facts.view t d) (facts.view u d) seen (g.views d) is
@@ -132,7 +132,7 @@ module _ {S : Type 0} (facts : Facts S) where
   right_grows t u g (Called f rows (Err why)) is = tt
   right_grows t u g (Configured now answer) is = tt
 
-  all_right_grows : (t u : S) → Grows facts t u → (acts : List Act) → AllByRecursion (IsRight facts t) acts → AllByRecursion (IsRight facts u) acts
+  all_right_grows : (t u : S) → Grows facts t u → (acts : List DeskCall) → AllByRecursion (IsRight facts t) acts → AllByRecursion (IsRight facts u) acts
   all_right_grows t u g [] is = tt
   all_right_grows t u g (act ∷ acts) is = (right_grows t u g act is.0, all_right_grows t u g acts is.1)
 
@@ -151,7 +151,7 @@ module _ {S : Type 0} (facts : Facts S) where
   pub moved_none : (s : S) → Moved facts s [] s
   moved_none s = record { leads = refl; grows = grows_self s; right = tt; floors = λ e. tt; top = λ e. omega arith }
 
-  pub moved_append : (s t u : S) (xs ys : List Act) → Moved facts s xs t → Moved facts t ys u → Moved facts s (xs ++ ys) u
+  pub moved_append : (s t u : S) (xs ys : List DeskCall) → Moved facts s xs t → Moved facts t ys u → Moved facts s (xs ++ ys) u
   moved_append s t u xs ys a b = record {
     leads = leads_append facts.did s t u xs ys a.leads b.leads;
     grows = grows_chain s t u a.grows b.grows;

@@ -11,7 +11,7 @@ use Rattle.dict_session.proofs.Telling.{tells_config, tells_entered, tells_none,
 use Rattle.dict_session.specs.Acts.{Configured, Entered, Reloaded, Taught}
 use Rattle.ddl_writing.specs.Canonical.{definition_text}
 use Rattle.dict_session.specs.Answers.{current_item, shown_item}
-use Rattle.dict_session.specs.Answers.{Answers, CallsOf, config_reply, no_memory, reach_reply, shown_reply}
+use Rattle.dict_session.specs.Answers.{FollowsFrom, CallsOf, config_reply, no_memory, reach_reply, shown_reply}
 use Rattle.dict_session.specs.Asks.{IsLookupAsk, IsRequestAsk, apply_ask, by_dictionary, look_ask, show_ask, show_function}
 use Rattle.dict_session.specs.Facts.{Facts, Grows}
 use Rattle.dict_schema.specs.declared.definition.Definition.{Definition}
@@ -66,7 +66,7 @@ which_reply r = which r (is_no_memory r) refl
 module _ {S : Type 0} (facts : Facts S) where
   -- no call was made
   pub plain_answered : (s : S) (heard : Heard) (asks : Ask) (now : ℕ) (answer : Answer) → answer.event ≡ event.Told 0
-      → Answers (facts.items s) heard asks now [] answer.reply ⊎ (answer.reply ≡ no_memory) → Answered facts s heard asks now answer s
+      → FollowsFrom (facts.items s) heard asks now [] answer.reply ⊎ (answer.reply ≡ no_memory) → Answered facts s heard asks now answer s
   plain_answered s heard asks now answer e is = record {
     calls = [];
     moved = moved_none facts s;
@@ -77,7 +77,7 @@ module _ {S : Type 0} (facts : Facts S) where
   -- an entering was refused
   pub refused_answered : (s t : S) (d : ℕ) (refusal : EnterFault) (heard : Heard) (asks : Ask) (now : ℕ) (answer : Answer)
       → facts.did s (Entered d (Err refusal)) t → Grows facts s t → answer.event ≡ event.Told 0
-      → Answers (facts.items s) heard asks now (Entered d (Err refusal) ∷ []) answer.reply → Answered facts s heard asks now answer t
+      → FollowsFrom (facts.items s) heard asks now (Entered d (Err refusal) ∷ []) answer.reply → Answered facts s heard asks now answer t
   refused_answered s t d refusal heard asks now answer did g e is = record {
     calls = Entered d (Err refusal) ∷ [];
     moved = moved_entered facts s t d (Err refusal) did g tt;
@@ -89,7 +89,7 @@ module _ {S : Type 0} (facts : Facts S) where
   pub entered_answered : (s t : S) (d : ℕ) (seen : Seen Contents) (heard : Heard) (asks : Ask) (now : ℕ) (reply : Reply)
       → facts.did s (Entered d (Ok seen)) t → Grows facts s t → IsNewestOf (facts.view t d) seen
       → CallsOf asks now (Entered d (Ok seen) ∷ [])
-      → (reply ≢ no_memory → Answers (facts.items s) heard asks now (Entered d (Ok seen) ∷ []) reply)
+      → (reply ≢ no_memory → FollowsFrom (facts.items s) heard asks now (Entered d (Ok seen) ∷ []) reply)
       → (number : ℕ) → number ≡ seen.number
       → Answered facts s heard asks now record { reply = reply; place = d; event = event.Entered number } t
   entered_answered s t d seen heard asks now reply did g newest calls is number e = record {
@@ -101,7 +101,7 @@ module _ {S : Type 0} (facts : Facts S) where
 
   pub taught_answered : (s t : S) (d : ℕ) (row : StatusRow) (heard : Heard) (now : ℕ) (reply : Reply)
       → facts.did s (Taught d row) t → Grows facts s t → row.number ≤ length (facts.view t d)
-      → Answers (facts.items s) heard (ask.Teach d) now (Taught d row ∷ []) reply
+      → FollowsFrom (facts.items s) heard (ask.Teach d) now (Taught d row ∷ []) reply
       → Answered facts s heard (ask.Teach d) now record { reply = reply; place = d; event = event.Told row.number } t
   taught_answered s t d row heard now reply did g learnt is = record {
     calls = Taught d row ∷ [];
@@ -112,7 +112,7 @@ module _ {S : Type 0} (facts : Facts S) where
 
   pub published_answered : (s t : S) (d now n : ℕ) (heard : Heard) (reply : Reply) → facts.did s (Reloaded d now (end.Published n)) t
       → Grows facts s t → ((k : ℕ) → end.Published n ≡ end.Published k → k ≤ length (facts.view t d))
-      → Answers (facts.items s) heard (ask.Load d) now (Reloaded d now (end.Published n) ∷ []) reply
+      → FollowsFrom (facts.items s) heard (ask.Load d) now (Reloaded d now (end.Published n) ∷ []) reply
       → Answered facts s heard (ask.Load d) now record { reply = reply; place = d; event = event.Told n } t
   published_answered s t d now n heard reply did g learnt is = record {
     calls = Reloaded d now (end.Published n) ∷ [];
@@ -124,7 +124,7 @@ module _ {S : Type 0} (facts : Facts S) where
   pub failed_answered : (s t : S) (d now : ℕ) (answer : LoadEnd) (heard : Heard) (made : Answer) → facts.did s (Reloaded d now answer) t
       → Grows facts s t → ((k : ℕ) → answer ≡ end.Published k → k ≤ length (facts.view t d)) → made.event ≡ event.Told 0
       → Tells (Reloaded d now answer ∷ []) made.place (event.Told 0)
-      → Answers (facts.items s) heard (ask.Load d) now (Reloaded d now answer ∷ []) made.reply
+      → FollowsFrom (facts.items s) heard (ask.Load d) now (Reloaded d now answer ∷ []) made.reply
       → Answered facts s heard (ask.Load d) now made t
   failed_answered s t d now answer heard made did g learnt e told is = record {
     calls = Reloaded d now answer ∷ [];

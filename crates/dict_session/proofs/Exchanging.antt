@@ -7,17 +7,17 @@ use Rattle.std.specs.Prelude.{replicate, slice_set}
 use Rattle.dict_schema.specs.declared.definition.Item.{Item}
 use Rattle.dict_session.proofs.Acting.{floor_append, moved_append, moved_before, moved_moment, moved_none}
 use Rattle.dict_session.proofs.Telling.{tells_none}
-use Rattle.dict_session.specs.Acts.{Act, Before, Moment}
+use Rattle.dict_session.specs.Acts.{DeskCall, Before, Moment}
 use Rattle.dict_schema.specs.declared.definition.Definition.{Definition}
 use Rattle.dict_schema.specs.declared.definition.FunctionDef.{FunctionDef}
-use Rattle.dict_session.specs.Answers.{Answers, CallAnswers, CallsOf, FetchAnswers, IsServed, no_memory}
+use Rattle.dict_session.specs.Answers.{FollowsFrom, CallAnswers, CallsOf, FetchAnswers, IsServed, no_memory}
 use Rattle.wire_text.specs.declared.request.Asked.{Asked}
 use Rattle.dict_session.specs.Asks.{IsRequestAsk}
 use Rattle.dict_session.specs.Facts.{Facts, Grows}
 use Rattle.dict_session.specs.Floors.{floor_after}
 use Rattle.dict_session.specs.Serving.{Answered, OrNoMemory, Tells}
 use Rattle.dict_session.specs.Session.{KeepsUp, acts_for, floor_of}
-use Rattle.dict_session.specs.Turns.{AnsweredAt, Exchanged, RaisedAt, empty_caller}
+use Rattle.dict_session.specs.Turns.{AnsweredAt, Exchanged, RaisedAt, unknown_floor}
 use Rattle.dict_session.specs.declared.answer.Answer.{Answer}
 use Rattle.dict_session.specs.declared.ask.Ask.{Ask}
 use Rattle.dict_session.specs.declared.ask.Ask.TheVariants as ask
@@ -33,20 +33,20 @@ use Rattle.wire_text.specs.declared.request.Request.{Request}
 
 -- ---- memory that lacks for the text of a reply
 
-fetch_calls : (d : ℕ) (definition : Definition) (q : Asked) (now : ℕ) (calls : List Act) (reply : Reply)
+fetch_calls : (d : ℕ) (definition : Definition) (q : Asked) (now : ℕ) (calls : List DeskCall) (reply : Reply)
     → FetchAnswers d definition q now calls reply → CallsOf (ask.Fetch d) now calls
 fetch_calls d definition q now calls reply (FetchAnswers.refused refusal keys none is) = inl none
 fetch_calls d definition q now calls reply (FetchAnswers.fetched keys rows are one is) = inr (keys, Ok rows, one)
 fetch_calls d definition q now calls reply (FetchAnswers.failed keys why are one is) = inr (keys, Err why, one)
 
-call_calls : (f : ℕ) (definition : FunctionDef) (q : Asked) (now : ℕ) (calls : List Act) (reply : Reply)
+call_calls : (f : ℕ) (definition : FunctionDef) (q : Asked) (now : ℕ) (calls : List DeskCall) (reply : Reply)
     → CallAnswers f definition q calls reply → CallsOf (ask.Apply f) now calls
 call_calls f definition q now calls reply (CallAnswers.refused refusal rows none is) = inl none
 call_calls f definition q now calls reply (CallAnswers.given rows values are one is) = inr (rows, Ok values, one)
 call_calls f definition q now calls reply (CallAnswers.failed rows why are one is) = inr (rows, Err why, one)
 
-calls_of : (items : List Item) (heard : Heard) (a : Ask) (now : ℕ) (calls : List Act) (reply : Reply)
-    → Answers items heard a now calls reply → CallsOf a now calls
+calls_of : (items : List Item) (heard : Heard) (a : Ask) (now : ℕ) (calls : List DeskCall) (reply : Reply)
+    → FollowsFrom items heard a now calls reply → CallsOf a now calls
 calls_of items heard (ask.Refuse refusal) now calls reply is = is.0
 calls_of items heard ask.SayBye now calls reply is = is.0
 calls_of items heard (ask.Look d) now calls reply is = (is.0, is.1)
@@ -59,7 +59,7 @@ calls_of items heard (ask.Show place) now calls reply is = is.0
 calls_of items heard (ask.ShowEntered d) now calls reply is = (is.0, is.1)
 calls_of items heard ask.Configure now calls reply is = (is.0, is.1)
 
-served_none : (items : List Item) (heard : Option Heard) (now : ℕ) (calls : List Act) (reply : Reply)
+served_none : (items : List Item) (heard : Option Heard) (now : ℕ) (calls : List DeskCall) (reply : Reply)
     → IsServed items heard now calls reply → IsServed items heard now calls no_memory
 served_none items None now calls reply is = (refl, is.1)
 served_none items (Some h) now calls reply is = (
@@ -68,7 +68,7 @@ served_none items (Some h) now calls reply is = (
   elim is.2 [ inl made ↦ inr (refl, inr (calls_of items h is.0 now calls reply made)) | inr none ↦ inr (refl, none.1) ],
 )
 
-pub served_said : (items : List Item) (heard : Option Heard) (now : ℕ) (calls : List Act) (reply said : Reply)
+pub served_said : (items : List Item) (heard : Option Heard) (now : ℕ) (calls : List DeskCall) (reply said : Reply)
     → OrNoMemory reply said → IsServed items heard now calls reply → IsServed items heard now calls said
 served_said items heard now calls reply said or is = elim or [
   | inl same ↦ subst (λ z. IsServed items heard now calls z) (sym same) is
@@ -126,7 +126,7 @@ module _ {S : Type 0} (facts : Facts S) where
 pub keeps_none : (cores : List CallerCore) → KeepsUp cores [] cores
 keeps_none cores = record { many = refl; risen = λ e h. omega arith; told = λ e floor h. omega arith }
 
-pub keeps_append : (a b c : List CallerCore) (xs ys : List Act) → KeepsUp a xs b → KeepsUp b ys c → KeepsUp a (xs ++ ys) c
+pub keeps_append : (a b c : List CallerCore) (xs ys : List DeskCall) → KeepsUp a xs b → KeepsUp b ys c → KeepsUp a (xs ++ ys) c
 keeps_append a b c xs ys one two = record {
   many = two.many ∙ one.many;
   risen = λ e h. let low = one.risen e h in let high = two.risen e (omega (arith, one.many)) in omega arith;
@@ -140,7 +140,7 @@ raised_above : (b : Bool) (floor core number after later : ℕ) → after ≤ (i
 raised_above true floor core number after later h e = (omega arith, omega arith)
 raised_above false floor core number after later h e = (omega arith, omega arith)
 
-pub keeps_raised : (cores later : List CallerCore) (now place : ℕ) (event : CallerEvent) (calls : List Act)
+pub keeps_raised : (cores later : List CallerCore) (now place : ℕ) (event : CallerEvent) (calls : List DeskCall)
     → RaisedAt cores place event later → Tells calls place event → KeepsUp cores (acts_for now calls) later
 keeps_raised cores later now place event calls raised tells = record {
   many = raised.many;
@@ -202,7 +202,7 @@ raised_none cores place event h = record {
 }
 
 -- no number is known at first
-pub zero_floors : (count e : ℕ) → floor_of (replicate count empty_caller) e ≡ 0
+pub zero_floors : (count e : ℕ) → floor_of (replicate count unknown_floor) e ≡ 0
 zero_floors zero e = refl
 zero_floors (suc count) zero = refl
 zero_floors (suc count) (suc e) = zero_floors count e

@@ -6,7 +6,7 @@ use Rattle.std.specs.Prelude.{slice_get}
 use Rattle.cache_layout.specs.Fetching.{key_types}
 use Rattle.dict_functions.proofs.AskedLines.{few-lines}
 use Rattle.dict_functions.specs.Asking.{IsAsked}
-use Rattle.dict_functions.specs.Calls.{AnswersCall, AreArguments, AreGiven, argument_types}
+use Rattle.dict_functions.specs.Calls.{AnswersCall, AreCallArguments, AreGiven, argument_types}
 use Rattle.dict_functions.specs.Keyed.{AnswersKeyed, AreFetched, AreKeys}
 use Rattle.dict_functions.specs.Keys.{ReadsAs}
 use Rattle.dict_schema.specs.declared.definition.Definition.{Definition}
@@ -50,7 +50,7 @@ one_function items place f g here item = let same : Some (Function f) ≡ Some (
 pub few_keys : (d : Definition) (q : Asked) (keys : List (List Value)) → IsAsked q → AreKeys d q (Ok keys) → length keys ≤ 4294967295
 few_keys d q keys asked are = omega (arith, few-lines q asked, AllZip-long (ReadsAs (key_types d)) q.lines keys are.1.read)
 
-pub few_rows : (f : FunctionDef) (q : Asked) (rows : List (List Value)) → IsAsked q → AreArguments f q (Ok rows) → length rows ≤ 4294967295
+pub few_rows : (f : FunctionDef) (q : Asked) (rows : List (List Value)) → IsAsked q → AreCallArguments f q (Ok rows) → length rows ≤ 4294967295
 few_rows f q rows asked are = omega (arith, few-lines q asked, AllZip-long (ReadsAs (argument_types f)) q.lines rows are.read)
 
 fitting : (gave : Definition → List Value → _ → ℕ → Type 0) (d : Definition) (now : ℕ) (keys : List (List Value)) (rows : List FetchedRow)
@@ -138,13 +138,13 @@ module _ {S : Type 0} (facts : Facts S) where
 
   module _ (s : S) (items : List Item) (f : ℕ) (q : Asked) (now : ℕ) (result : Result (List (List Value)) ReplyFault)
       (same : items ≡ facts.items s)
-      (fits : (e : FunctionDef) → IsFunctionItem items f e → UnlessNoMemory (Err fault.NoMemory) result (AreArguments e q result))
+      (fits : (e : FunctionDef) → IsFunctionItem items f e → UnlessNoMemory (Err fault.NoMemory) result (AreCallArguments e q result))
       (function : (definition : FunctionDef) × IsFunctionItem (facts.items s) f definition) where
-    are_rows : (given : Result (List (List Value)) ReplyFault) → result ≡ given → UnlessNoMemory (Err fault.NoMemory) given (AreArguments function.0 q given)
-    are_rows given is = subst (λ r. UnlessNoMemory (Err fault.NoMemory) r (AreArguments function.0 q r)) is
+    are_rows : (given : Result (List (List Value)) ReplyFault) → result ≡ given → UnlessNoMemory (Err fault.NoMemory) given (AreCallArguments function.0 q given)
+    are_rows given is = subst (λ r. UnlessNoMemory (Err fault.NoMemory) r (AreCallArguments function.0 q r)) is
         (fits function.0 (subst (λ z. IsFunctionItem z f function.0) (sym same) function.1))
 
-    ok_rows : (rows : List (List Value)) → result ≡ Ok rows → AreArguments function.0 q (Ok rows)
+    ok_rows : (rows : List (List Value)) → result ≡ Ok rows → AreCallArguments function.0 q (Ok rows)
     ok_rows rows is = are_rows (Ok rows) is (λ e. cc)
 
     pub call_refused : (refusal : ReplyFault) (answer : Answer) → result ≡ Err refusal → answer.event ≡ event.Told 0
@@ -163,8 +163,8 @@ module _ {S : Type 0} (facts : Facts S) where
     few_called rows sent asked is e = subst (λ z. length z ≤ 4294967295) (sym e) (few_rows function.0 q rows asked (ok_rows rows is))
 
     -- the arguments are some that the function can be sent, whichever it is that stands there
-    pub sent_rows : (rows sent : List (List Value)) → result ≡ Ok rows → sent ≡ rows → AreArguments function.0 q (Ok sent)
-    sent_rows rows sent is e = subst (λ z. AreArguments function.0 q (Ok z)) (sym e) (ok_rows rows is)
+    pub sent_rows : (rows sent : List (List Value)) → result ≡ Ok rows → sent ≡ rows → AreCallArguments function.0 q (Ok sent)
+    sent_rows rows sent is e = subst (λ z. AreCallArguments function.0 q (Ok z)) (sym e) (ok_rows rows is)
 
     module _ (t : S) (rows sent : List (List Value)) (is : result ≡ Ok rows) (e : sent ≡ rows) (g : Grows facts s t) where
       pub call_failed : (why : CallFault) (answer : Answer) → facts.did s (Called f sent (Err why)) t → answer.event ≡ event.Told 0
@@ -178,11 +178,11 @@ module _ {S : Type 0} (facts : Facts S) where
 
       pub given_values : (values : List Value) (later : List Item) → later ≡ facts.items t
           → ((definition : FunctionDef) → IsFunctionItem (facts.items s) f definition → EachReturned definition sent values)
-          → (definition : FunctionDef) → IsFunctionItem later f definition → (k : List (List Value)) × AreArguments definition q (Ok k) × AreGiven definition k values
+          → (definition : FunctionDef) → IsFunctionItem later f definition → (k : List (List Value)) × AreCallArguments definition q (Ok k) × AreGiven definition k values
       given_values values later there each definition item =
           let here = subst (λ z. IsFunctionItem z f definition) (there ∙ g.items) item in
           let one = one_function (facts.items s) f function.0 definition function.1 here in
-          (sent, subst (λ z. AreArguments z q (Ok sent)) one (sent_rows rows sent is e), each definition here)
+          (sent, subst (λ z. AreCallArguments z q (Ok sent)) one (sent_rows rows sent is e), each definition here)
 
       pub call_answered : (values : List Value) (later : List Item) (answer : Answer) (reply : Reply) → facts.did s (Called f sent (Ok values)) t
           → ((definition : FunctionDef) → IsFunctionItem (facts.items s) f definition → EachReturned definition sent values)

@@ -12,12 +12,12 @@ use Rattle.dict_schema.specs.declared.definition.Definition.{Definition}
 use Rattle.dict_schema.specs.declared.definition.FunctionDef.{FunctionDef}
 use Rattle.dict_session.proofs.OneAsk.{ask_once}
 use Rattle.dict_session.proofs.OneList.{HasHeard, ends_once, requests_once, stood_of}
-use Rattle.dict_session.specs.Acts.{Act, Before, Configured, Entered, Leads, Moment, Reloaded, Taught}
-use Rattle.dict_session.specs.Answers.{Answers, IsServed, LooksUp, asked_in, config_reply, load_reply, no_memory, reach_reply, shown_reply, status_reply}
+use Rattle.dict_session.specs.Acts.{DeskCall, Before, Configured, Entered, Leads, Moment, Reloaded, Taught}
+use Rattle.dict_session.specs.Answers.{FollowsFrom, IsServed, LooksUp, asked_in, config_reply, load_reply, no_memory, reach_reply, shown_reply, status_reply}
 use Rattle.dict_session.specs.Facts.{Facts}
-use Rattle.dict_session.specs.Found.{AllFound, AllLoaded, AreOne, IsByInput, IsFoundAct, IsSameCall, SawSound, heards}
+use Rattle.dict_session.specs.Found.{AllFound, AreFullyLoaded, AreOne, IsByInput, IsFoundAct, IsSameCall, SawSound, heards}
 use Rattle.dict_session.specs.Items.{IsFunctionItem, IsKeyedItem}
-use Rattle.dict_session.specs.Session.{Ending, Exchange, IsAnswered, IsEnd, acts_of, all_acts, bytes, heard_in, place, texts}
+use Rattle.dict_session.specs.Session.{SessionEnds, Exchange, IsServedIn, IsEnd, acts_of, all_acts, bytes, heard_in, place, texts}
 use Rattle.dict_session.specs.declared.ask.Ask.{Ask}
 use Rattle.dict_session.specs.declared.ask.Ask.TheVariants as ask
 use Rattle.dict_session.specs.declared.desk.ConfigEnd.{ConfigEnd}
@@ -43,7 +43,7 @@ has_by : (items : List Item) (x : Exchange) (heard : Option Heard) → heard_in 
 has_by items x (Some h) e found served = (h, e)
 has_by items x None e found served = absurd (found served.0)
 
-pub all_heard : (items : List Item) (xs : List Exchange) → AllFound xs → AllByRecursion (IsAnswered items) xs → AllByRecursion HasHeard xs
+pub all_heard : (items : List Item) (xs : List Exchange) → AllFound xs → AllByRecursion (IsServedIn items) xs → AllByRecursion HasHeard xs
 all_heard items [] found answered = tt
 all_heard items (x ∷ xs) found answered =
     (has_by items x (heard_in x.asking) refl found.0 answered.0, all_heard items xs found.1 answered.1)
@@ -54,14 +54,14 @@ left_known None read tail input e = absurd (none-some input (sym e))
 left_known (Some l) read tail input e = (l, refl, sym (same_Some input (read ++ (tail ++ l)) e))
 
 module _ {S : Type 0} (facts : Facts S) where
-  what_is_left : (s t : S) (old new : Ends) (ended : SessionEnd) (cores later : List CallerCore) (input : List ℕ) (a : Ending facts s (place [] old) ended t new cores later) → old.reads.known ≡ Some input
+  what_is_left : (s t : S) (old new : Ends) (ended : SessionEnd) (cores later : List CallerCore) (input : List ℕ) (a : SessionEnds facts s (place [] old) ended t new cores later) → old.reads.known ≡ Some input
       → (l : List ℕ) × (new.reads.known ≡ Some l) × (bytes a.run.exchanges ++ (a.tail ++ l) ≡ input)
   what_is_left s t old new ended cores later input a known =
       left_known new.reads.known (bytes a.run.exchanges) a.tail input
       (sym (ap (prepend_known []) known) ∙ a.run.read)
 
   pub heard_once : (s t u v : S) (old new before after : Ends) (ended other : SessionEnd) (cores later kept left : List CallerCore) (input : List ℕ)
-      (a : Ending facts s (place [] old) ended t new cores later) (b : Ending facts u (place [] before) other v after kept left)
+      (a : SessionEnds facts s (place [] old) ended t new cores later) (b : SessionEnds facts u (place [] before) other v after kept left)
       → old.reads.known ≡ Some input → before.reads.known ≡ Some input → IsByInput ended → IsByInput other → AllFound a.run.exchanges → AllFound b.run.exchanges
       → (heards a.run.exchanges ≡ heards b.run.exchanges) × (ended ≡ other)
   heard_once s t u v old new before after ended other cores later kept left input a b known told by also found all =
@@ -129,7 +129,7 @@ found_configured now config.TooLong a found p = tt
 found_configured now (config.Refused line place words) a found p = tt
 found_configured now (config.Names item) a found p = tt
 
-leads_split : {S : Type 0} (did : S → Act → S → Type 0) (s t : S) (xs ys : List Act) → Leads did s (xs ++ ys) t → (mid : S) × Leads did s xs mid × Leads did mid ys t
+leads_split : {S : Type 0} (did : S → DeskCall → S → Type 0) (s t : S) (xs ys : List DeskCall) → Leads did s (xs ++ ys) t → (mid : S) × Leads did s xs mid × Leads did mid ys t
 leads_split did s t [] ys h = (s, refl, h)
 leads_split did s t (act ∷ xs) ys h =
     let rest = leads_split did h.0 t xs ys h.2 in (rest.0, (h.0, h.1, rest.1), rest.2)
@@ -146,30 +146,30 @@ outs_once end.Spent xs ys out closing tail put closed back left still by e p q =
 outs_once end.NoMemory xs ys out closing tail put closed back left still by e p q = absurd by
 
 -- Over a desk whose acts are one between states that are alike: what is answered is one.
-module _ {S : Type 0} (made : S → Act → S → Type 0) (R : S → S → Type 0) (items : List Item)
-    (one : (s t u v : S) (a b : Act) → R s u → IsSameCall a b → IsFoundAct a → IsFoundAct b → made s a t → made u b v → (a ≡ b) × R t v)
+module _ {S : Type 0} (made : S → DeskCall → S → Type 0) (R : S → S → Type 0) (items : List Item)
+    (one : (s t u v : S) (a b : DeskCall) → R s u → IsSameCall a b → IsFoundAct a → IsFoundAct b → made s a t → made u b v → (a ≡ b) × R t v)
     (sound : (s t u : S) (d : ℕ) (answer : Result (Seen Contents) EnterFault) → R s u → made s (Entered d answer) t → SawSound answer)
     (unkeyed : (d : ℕ) (definition : Definition) → IsKeyedItem items d definition → ⊥)
     (uncalled : (f : ℕ) (definition : FunctionDef) → IsFunctionItem items f definition → ⊥) where
-  none_once : (xs ys : List Act) (s t u v : S) → R s u → Leads made s xs t → Leads made u ys v → xs ≡ [] → ys ≡ [] → R t v
+  none_once : (xs ys : List DeskCall) (s t u v : S) → R s u → Leads made s xs t → Leads made u ys v → xs ≡ [] → ys ≡ [] → R t v
   none_once xs ys s t u v r m n e f =
       let a : t ≡ s = subst (λ l. Leads made s l t) e m in
       let b : v ≡ u = subst (λ l. Leads made u l v) f n in
       subst (λ z. R z v) (sym a) (subst (λ z. R s z) (sym b) r)
 
-  single : (x y : Act) (xs ys : List Act) (s t u v : S) → R s u → Leads made s xs t → Leads made u ys v → xs ≡ x ∷ [] → ys ≡ y ∷ [] → IsSameCall x y → IsFoundAct x → IsFoundAct y → (x ≡ y) × R t v
+  single : (x y : DeskCall) (xs ys : List DeskCall) (s t u v : S) → R s u → Leads made s xs t → Leads made u ys v → xs ≡ x ∷ [] → ys ≡ y ∷ [] → IsSameCall x y → IsFoundAct x → IsFoundAct y → (x ≡ y) × R t v
   single x y xs ys s t u v r m n e f same found again =
       let a : Leads made s (x ∷ []) t = subst (λ l. Leads made s l t) e m in
       let b : Leads made u (y ∷ []) v = subst (λ l. Leads made u l v) f n in
       let k = one s a.0 u b.0 x y r same found again a.1 b.1 in
       (k.0, subst (λ z. R z v) (sym a.2) (subst (λ z. R a.0 z) (sym b.2) k.1))
 
-  saw : (d : ℕ) (answer : Result (Seen Contents) EnterFault) (xs : List Act) (s t u : S) → R s u → Leads made s xs t → xs ≡ Entered d answer ∷ [] → SawSound answer
+  saw : (d : ℕ) (answer : Result (Seen Contents) EnterFault) (xs : List DeskCall) (s t u : S) → R s u → Leads made s xs t → xs ≡ Entered d answer ∷ [] → SawSound answer
   saw d answer xs s t u r m e =
       let a : Leads made s (Entered d answer ∷ []) t = subst (λ l. Leads made s l t) e m in
       sound s a.0 u d answer r a.1
 
-  answers_once : (asks : Ask) (heard : Heard) (now : ℕ) (xs ys : List Act) (a b : Reply) (s t u v : S) → R s u → a ≢ no_memory → b ≢ no_memory → Leads made s xs t → Leads made u ys v → Answers items heard asks now xs a → Answers items heard asks now ys b → (xs ≡ ys) × (a ≡ b) × R t v
+  answers_once : (asks : Ask) (heard : Heard) (now : ℕ) (xs ys : List DeskCall) (a b : Reply) (s t u v : S) → R s u → a ≢ no_memory → b ≢ no_memory → Leads made s xs t → Leads made u ys v → FollowsFrom items heard asks now xs a → FollowsFrom items heard asks now ys b → (xs ≡ ys) × (a ≡ b) × R t v
   answers_once (ask.Refuse refusal) heard now xs ys a b s t u v r found again m n (e, p) (f, q) = (e ∙ sym f, p ∙ sym q, none_once xs ys s t u v r m n e f)
   answers_once ask.SayBye heard now xs ys a b s t u v r found again m n (e, p) (f, q) = (e ∙ sym f, p ∙ sym q, none_once xs ys s t u v r m n e f)
   answers_once (ask.Show place) heard now xs ys a b s t u v r found again m n (e, p) (f, q) = (e ∙ sym f, p ∙ sym q, none_once xs ys s t u v r m n e f)
@@ -198,19 +198,19 @@ module _ {S : Type 0} (made : S → Act → S → Type 0) (R : S → S → Type 
   answers_once (ask.Fetch d) heard now xs ys a b s t u v r found again m n (definition, q, is, of, rest) y = absurd (unkeyed d definition is)
   answers_once (ask.Apply f) heard now xs ys a b s t u v r found again m n (definition, q, is, of, rest) y = absurd (uncalled f definition is)
 
-  served_once : (heard : Option Heard) (now : ℕ) (xs ys : List Act) (a b : Reply) (s t u v : S) → R s u → a ≢ no_memory → b ≢ no_memory → Leads made s xs t → Leads made u ys v → IsServed items heard now xs a → IsServed items heard now ys b → (xs ≡ ys) × (a ≡ b) × R t v
+  served_once : (heard : Option Heard) (now : ℕ) (xs ys : List DeskCall) (a b : Reply) (s t u v : S) → R s u → a ≢ no_memory → b ≢ no_memory → Leads made s xs t → Leads made u ys v → IsServed items heard now xs a → IsServed items heard now ys b → (xs ≡ ys) × (a ≡ b) × R t v
   served_once None now xs ys a b s t u v r found again m n p q = absurd (found p.0)
   served_once (Some h) now xs ys a b s t u v r found again m n (x, p, whole) (y, q, all) =
       let same : x ≡ y = ask_once items h x y p q in
       elim whole [
         | inl one_ ↦ elim all [
-          | inl two ↦ answers_once y h now xs ys a b s t u v r found again m n (subst (λ z. Answers items h z now xs a) same one_) two
+          | inl two ↦ answers_once y h now xs ys a b s t u v r found again m n (subst (λ z. FollowsFrom items h z now xs a) same one_) two
           | inr lost ↦ absurd (again lost.0)
         ]
         | inr lost ↦ absurd (found lost.0)
       ]
 
-  exchanges_once : (xs ys : List Exchange) (s t u v : S) → R s u → heards xs ≡ heards ys → AllFound xs → AllFound ys → AllByRecursion (IsAnswered items) xs → AllByRecursion (IsAnswered items) ys → Leads made s (all_acts xs) t → Leads made u (all_acts ys) v
+  exchanges_once : (xs ys : List Exchange) (s t u v : S) → R s u → heards xs ≡ heards ys → AllFound xs → AllFound ys → AllByRecursion (IsServedIn items) xs → AllByRecursion (IsServedIn items) ys → Leads made s (all_acts xs) t → Leads made u (all_acts ys) v
       → (texts xs ≡ texts ys) × (all_acts xs ≡ all_acts ys) × R t v
   exchanges_once [] [] s t u v r e found again p q m n = (refl, refl, subst (λ z. R z v) (sym m) (subst (λ z. R s z) (sym n) r))
   exchanges_once [] (y ∷ ys) s t u v r e found again p q m n = cc
@@ -234,15 +234,15 @@ module _ {S : Type 0} (made : S → Act → S → Type 0) (R : S → S → Type 
 
   -- two sessions over one input, from states that are alike
   pub session_once : (facts : Facts S) (s t u v : S) (old new before after : Ends) (ended other : SessionEnd) (cores later kept left : List CallerCore) (input : List ℕ)
-      (a : Ending facts s (place [] old) ended t new cores later) (b : Ending facts u (place [] before) other v after kept left)
+      (a : SessionEnds facts s (place [] old) ended t new cores later) (b : SessionEnds facts u (place [] before) other v after kept left)
       → facts.items s ≡ items → facts.items u ≡ items → R s u
       → old.reads.known ≡ Some input → before.reads.known ≡ Some input → IsByInput ended → IsByInput other → AllFound a.run.exchanges → AllFound b.run.exchanges
       → Leads made s (all_acts a.run.exchanges) t → Leads made u (all_acts b.run.exchanges) v
       → (ended ≡ other) × (a.run.out ≡ b.run.out) × (all_acts a.run.exchanges ≡ all_acts b.run.exchanges) × R t v
   session_once facts s t u v old new before after ended other cores later kept left input a b is was r known told by also found all m n =
       let heard = heard_once facts s t u v old new before after ended other cores later kept left input a b known told by also found all in
-      let answered = subst (λ l. AllByRecursion (IsAnswered l) a.run.exchanges) is a.run.answered in
-      let others = subst (λ l. AllByRecursion (IsAnswered l) b.run.exchanges) was b.run.answered in
+      let answered = subst (λ l. AllByRecursion (IsServedIn l) a.run.exchanges) is a.run.answered in
+      let others = subst (λ l. AllByRecursion (IsServedIn l) b.run.exchanges) was b.run.answered in
       let same = exchanges_once a.run.exchanges b.run.exchanges s t u v r heard.0 found all answered others m n in (
         heard.1,
         outs_once other a.run.exchanges b.run.exchanges a.run.out a.run.closing a.tail b.run.out b.run.closing b.tail new.reads.known after.reads.known also same.0
@@ -253,12 +253,12 @@ module _ {S : Type 0} (made : S → Act → S → Type 0) (R : S → S → Type 
 
 -- acts that are one from equal states
 module _ {S : Type 0} (facts : Facts S) (are : AreOne facts) where
-  one_from : (s t u v : S) (a b : Act) → s ≡ u → IsSameCall a b → IsFoundAct a → IsFoundAct b → facts.did s a t → facts.did u b v → (a ≡ b) × (t ≡ v)
+  one_from : (s t u v : S) (a b : DeskCall) → s ≡ u → IsSameCall a b → IsFoundAct a → IsFoundAct b → facts.did s a t → facts.did u b v → (a ≡ b) × (t ≡ v)
   one_from s t u v a b e same found again m n = are.one s t v a b same found again m (subst (λ z. facts.did z b v) (sym e) n)
 
   pub desk_once : (s t v : S) (old new before after : Ends) (ended other : SessionEnd) (cores later kept left : List CallerCore) (input : List ℕ)
-      (a : Ending facts s (place [] old) ended t new cores later) (b : Ending facts s (place [] before) other v after kept left)
-      → AllLoaded (facts.items s)
+      (a : SessionEnds facts s (place [] old) ended t new cores later) (b : SessionEnds facts s (place [] before) other v after kept left)
+      → AreFullyLoaded (facts.items s)
       → old.reads.known ≡ Some input → before.reads.known ≡ Some input → IsByInput ended → IsByInput other → AllFound a.run.exchanges → AllFound b.run.exchanges
       → (ended ≡ other) × (a.run.out ≡ b.run.out) × (all_acts a.run.exchanges ≡ all_acts b.run.exchanges) × (t ≡ v)
   desk_once s t v old new before after ended other cores later kept left input a b loaded known told by also found all =

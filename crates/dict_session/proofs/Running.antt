@@ -12,7 +12,7 @@ use Rattle.dict_session.proofs.Acting.{all_append, moved_append, moved_none}
 use Rattle.dict_session.proofs.Exchanging.{keeps_append, keeps_none}
 use Rattle.dict_session.specs.Facts.{Facts}
 use Rattle.dict_session.specs.Floors.{Moved}
-use Rattle.dict_session.specs.Session.{AreRequests, Ending, Exchange, IsAnswered, IsEnd, KeepsUp, LastQuits, NoneQuits, Place, Run}
+use Rattle.dict_session.specs.Session.{AreRequests, SessionEnds, Exchange, IsServedIn, IsEnd, KeepsUp, LastQuits, NoneQuits, Place, SessionRun}
 use Rattle.dict_session.specs.Session.{StaysIn, acts_of, all_acts, bytes, place, texts}
 use Rattle.dict_session.specs.Turns.{Going, IsTurnEnd, WasWhole}
 use Rattle.dict_session.specs.declared.session.SessionEnd.{SessionEnd}
@@ -88,7 +88,7 @@ end_append end.WriteFault xs ys out closing tail left turn none is = elim is [
 
 module _ {S : Type 0} (facts : Facts S) where
   -- nothing was taken or written
-  abbrev pub run_still : (s : S) (p q : Place) → p.next ≡ q.next → q.written ≡ p.written → Run facts s p s q
+  abbrev pub run_still : (s : S) (p q : Place) → p.next ≡ q.next → q.written ≡ p.written → SessionRun facts s p s q
   run_still s p q e f = record {
     exchanges = [];
     out = [];
@@ -101,8 +101,8 @@ module _ {S : Type 0} (facts : Facts S) where
   }
 
   -- requests that were answered behind others, each of which had its whole reply
-  abbrev run_append : (s t u : S) (p q r : Place) (one : Run facts s p t q) (two : Run facts t q u r) → one.out ≡ texts one.exchanges
-      → Run facts s p u r
+  abbrev run_append : (s t u : S) (p q r : Place) (one : SessionRun facts s p t q) (two : SessionRun facts t q u r) → one.out ≡ texts one.exchanges
+      → SessionRun facts s p u r
   run_append s t u p q r one two all = record {
     exchanges = one.exchanges ++ two.exchanges;
     out = texts one.exchanges ++ two.out;
@@ -118,14 +118,14 @@ module _ {S : Type 0} (facts : Facts S) where
         (prefix_behind (texts one.exchanges) two.out (texts two.exchanges ++ two.closing) two.front);
     moved = subst (λ acts. Moved facts s acts u) (sym (acts_append one.exchanges two.exchanges))
         (moved_append facts s t u (all_acts one.exchanges) (all_acts two.exchanges) one.moved two.moved);
-    answered = all_append (IsAnswered (facts.items s)) one.exchanges two.exchanges one.answered
-        (subst (λ items. AllByRecursion (IsAnswered items) two.exchanges) one.moved.grows.items two.answered);
+    answered = all_append (IsServedIn (facts.items s)) one.exchanges two.exchanges one.answered
+        (subst (λ items. AllByRecursion (IsServedIn items) two.exchanges) one.moved.grows.items two.answered);
   }
 
   -- one request, of whose reply a front was written
   abbrev pub run_one : (s t : S) (p q : Place) (x : Exchange) (out : List ℕ) → p.next ≡ prepend_known x.text q.next
       → q.written ≡ append_known p.written out → IsPrefix out (reply_text x.reply) → Moved facts s (acts_of x) t
-      → IsAnswered (facts.items s) x → Run facts s p t q
+      → IsServedIn (facts.items s) x → SessionRun facts s p t q
   run_one s t p q x out read wrote front moved answered = record {
     exchanges = x ∷ [];
     out = out;
@@ -140,7 +140,7 @@ module _ {S : Type 0} (facts : Facts S) where
 
   -- no request, and a front of this text was written at the end
   abbrev pub run_closed : (s : S) (p q : Place) (text out : List ℕ) → p.next ≡ q.next → q.written ≡ append_known p.written out
-      → IsPrefix out text → Run facts s p s q
+      → IsPrefix out text → SessionRun facts s p s q
   run_closed s p q text out e wrote front = record {
     exchanges = [];
     out = out;
@@ -178,7 +178,7 @@ module _ {S : Type 0} (facts : Facts S) where
       }
 
   pub going_ends : (s t u : S) (p q : Place) (new : Ends) (ended : SessionEnd) (count : ℕ) (a b c : List CallerCore)
-      → Going facts s p t q count a b → IsTurnEnd ended → Ending facts t q ended u new b c → Ending facts s p ended u new a c
+      → Going facts s p t q count a b → IsTurnEnd ended → SessionEnds facts t q ended u new b c → SessionEnds facts s p ended u new a c
   going_ends s t u p q new ended count a b c one turn last =
       record {
         tail = last.tail;
@@ -190,7 +190,7 @@ module _ {S : Type 0} (facts : Facts S) where
       }
 
   pub going_spent : (s t : S) (p : Place) (ahead : List ℕ) (new : Ends) (count : ℕ) (a b : List CallerCore)
-      → Going facts s p t (place ahead new) count a b → count ≡ MOST_REQUESTS → Ending facts s p end.Spent t new a b
+      → Going facts s p t (place ahead new) count a b → count ≡ MOST_REQUESTS → SessionEnds facts s p end.Spent t new a b
   going_spent s t p ahead new count a b one full = record {
     tail = ahead;
     run = one.run;
@@ -200,7 +200,7 @@ module _ {S : Type 0} (facts : Facts S) where
   }
 
   -- memory was refused before the first read
-  pub ending_none : (s : S) (old : Ends) (cores : List CallerCore) → Ending facts s (place [] old) end.NoMemory s old cores cores
+  pub ending_none : (s : S) (old : Ends) (cores : List CallerCore) → SessionEnds facts s (place [] old) end.NoMemory s old cores cores
   ending_none s old cores = record {
     tail = [];
     run = run_still s (place [] old) (place [] old) refl refl;

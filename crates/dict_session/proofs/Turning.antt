@@ -11,9 +11,9 @@ use Rattle.dict_io.specs.Links.{Ends, Puts}
 use Rattle.dict_io.specs.Outside.{HasCause}
 use Rattle.dict_io.specs.declared.outside.Failed.{Failed}
 use Rattle.dict_session.proofs.Running.{prepend_none, run_closed, run_one, run_still}
-use Rattle.dict_session.specs.Acts.{Act}
+use Rattle.dict_session.specs.Acts.{DeskCall}
 use Rattle.dict_session.specs.Facts.{Facts}
-use Rattle.dict_session.specs.Session.{AreRequests, Exchange, FaultsFor, IsAskedIn, KeepsUp, LastQuits, NoneQuits, Place, Run, acts_for}
+use Rattle.dict_session.specs.Session.{AreRequests, Exchange, FaultsFor, IsAskedIn, KeepsUp, LastQuits, NoneQuits, Place, SessionRun, acts_for}
 use Rattle.dict_session.specs.Session.{asks_to_quit, place, too_long_text}
 use Rattle.dict_session.specs.Turns.{IsRequestTurn, IsTurn, TurnFaults, closed_by, turn_by}
 use Rattle.dict_session.specs.declared.session.SessionEnd.{SessionEnd}
@@ -23,7 +23,7 @@ use Rattle.dict_session.specs.declared.session.Turn.TheVariants as turn
 use Rattle.dict_session.proofs.Exchanging.{keeps_none}
 use Rattle.line_reader.specs.Reading.{NothingLeft}
 use Rattle.load_core.specs.declared.caller.CallerCore.{CallerCore}
-use Rattle.request_reader.specs.Taking.{IsRequestText, Takes, TakesFor}
+use Rattle.request_reader.specs.Taking.{IsRequestText, TakesRequest, TakesFor}
 use Rattle.request_reader.specs.declared.reader.Asking.{Asking}
 use Rattle.request_reader.specs.declared.reader.Asking.TheVariants as asking
 use Rattle.request_reader.specs.declared.reader.Taken.{Taken}
@@ -98,7 +98,7 @@ module _ {S : Type 0} (facts : Facts S) where
   abbrev answered_run : (s t : S) (asked : Asking) (last : Bool) (made : Turn) (p : Place) (ahead : List ℕ) (mid new : Ends)
       (cores later : List CallerCore) (took : Took asked last p ahead mid) (turns : IsRequestTurn facts s mid asked last made t new cores later)
       (out : List ℕ) → new.writes.known ≡ append_known mid.writes.known out → IsPrefix out (reply_text turns.said)
-      → Run facts s p t (place ahead new)
+      → SessionRun facts s p t (place ahead new)
   answered_run s t asked last made p ahead mid new cores later took turns out wrote front =
       run_one facts s t p (place ahead new) (exchange_of s t asked last made mid new cores later took.text turns) out
       (took.next ∙ sym (prepend_known-twice mid.reads.known took.text ahead)
@@ -106,7 +106,7 @@ module _ {S : Type 0} (facts : Facts S) where
       (wrote ∙ ap (λ o. append_known o out) (sym took.written))
       front turns.moved turns.served
 
-  kept_one : (cores later : List CallerCore) (now : ℕ) (calls : List Act) → KeepsUp cores (acts_for now calls) later
+  kept_one : (cores later : List CallerCore) (now : ℕ) (calls : List DeskCall) → KeepsUp cores (acts_for now calls) later
       → KeepsUp cores (acts_for now calls ++ []) later
   kept_one cores later now calls kept = subst (λ acts. KeepsUp cores acts later) (sym (append-nil (acts_for now calls))) kept
 
@@ -169,7 +169,7 @@ module _ {S : Type 0} (facts : Facts S) where
   }
 
   pub request_turn : (s t : S) (asked : Asking) (last : Bool) (before ahead : List ℕ) (old mid new : Ends)
-      (cores later : List CallerCore) (made : Turn) → Takes before old (taken.Request asked last) ahead mid
+      (cores later : List CallerCore) (made : Turn) → TakesRequest before old (taken.Request asked last) ahead mid
       → IsRequestTurn facts s mid asked last made t new cores later → IsTurn facts s (place before old) made t ahead new cores later
   request_turn s t asked last before ahead old mid new cores later made takes turns =
       subst (λ m. IsTurn facts s (place before old) m t ahead new cores later) (sym turns.turns)
@@ -178,7 +178,7 @@ module _ {S : Type 0} (facts : Facts S) where
 
   -- ---- the end of a session without a request
 
-  pub ended_turn : (s : S) (before ahead : List ℕ) (old new : Ends) (cores : List CallerCore) → Takes before old taken.End ahead new
+  pub ended_turn : (s : S) (before ahead : List ℕ) (old new : Ends) (cores : List CallerCore) → TakesRequest before old taken.End ahead new
       → IsTurn facts s (place before old) (turn.Over end.Ended) s ahead new cores cores
   ended_turn s before ahead old new cores takes = (
     tt,
@@ -192,7 +192,7 @@ module _ {S : Type 0} (facts : Facts S) where
     },
   )
 
-  pub failed_turn : (s : S) (before ahead : List ℕ) (old new : Ends) (cores : List CallerCore) → Takes before old taken.Failed ahead new
+  pub failed_turn : (s : S) (before ahead : List ℕ) (old new : Ends) (cores : List CallerCore) → TakesRequest before old taken.Failed ahead new
       → IsTurn facts s (place before old) (turn.Over end.ReadFault) s ahead new cores cores
   failed_turn s before ahead old new cores takes = (
     tt,
@@ -206,7 +206,7 @@ module _ {S : Type 0} (facts : Facts S) where
   )
 
   long_sent : (s : S) (before ahead : List ℕ) (old mid new : Ends) (cores : List CallerCore) (sent : Result (Unit {0}) Failed)
-      → Takes before old taken.TooLong ahead mid → Puts mid too_long_text sent new
+      → TakesRequest before old taken.TooLong ahead mid → Puts mid too_long_text sent new
       → IsTurn facts s (place before old) (turn.Over (closed_by sent)) s ahead new cores cores
   long_sent s before ahead old mid new cores (Ok ok) takes puts = (
     tt,
@@ -235,7 +235,7 @@ module _ {S : Type 0} (facts : Facts S) where
   )
 
   pub long_turn : (s : S) (before ahead : List ℕ) (old mid new : Ends) (cores : List CallerCore) (ended : SessionEnd)
-      → Takes before old taken.TooLong ahead mid
+      → TakesRequest before old taken.TooLong ahead mid
       → (sent : Result (Unit {0}) Failed) × Puts mid too_long_text sent new × (ended ≡ closed_by sent)
       → IsTurn facts s (place before old) (turn.Over ended) s ahead new cores cores
   long_turn s before ahead old mid new cores ended takes closed =
@@ -251,7 +251,7 @@ rose_as : (a b : ℕ) (P Q : Type 0) → HasCause a b P → (Q → P) → (P →
 rose_as a b P Q cause back on =
     record { later = cause.later; rose = λ h. cause.rose (back h); still = λ n. cause.still (λ h. n (on h)) }
 
-same_reads : (took : Taken) (before ahead : List ℕ) (old mid : Ends) → Takes before old took ahead mid → took ≢ taken.Failed
+same_reads : (took : Taken) (before ahead : List ℕ) (old mid : Ends) → TakesRequest before old took ahead mid → took ≢ taken.Failed
     → mid.reads.faults ≡ old.reads.faults
 same_reads took before ahead old mid takes other = takes.cause.still other
 
@@ -286,7 +286,7 @@ sent_faults (Ok ok) false false old mid new text reads writes ended puts = (
 )
 
 pub request_faults : {S : Type 0} (facts : Facts S) (s t : S) (asked : Asking) (last : Bool) (before ahead : List ℕ)
-    (old mid new : Ends) (cores later : List CallerCore) (made : Turn) → Takes before old (taken.Request asked last) ahead mid
+    (old mid new : Ends) (cores later : List CallerCore) (made : Turn) → TakesRequest before old (taken.Request asked last) ahead mid
     → IsRequestTurn facts s mid asked last made t new cores later → TurnFaults old made new
 request_faults facts s t asked last before ahead old mid new cores later made takes turns =
     subst (λ m. TurnFaults old m new) (sym turns.turns)
@@ -305,7 +305,7 @@ closed_faults (Err failed) old mid new reads writes puts =
     wrote_faults (turn.Over end.WriteFault) end.WriteFault old mid new (Err failed) too_long_text reads writes puts
     (λ e. let other : end.WriteFault ≡ end.ReadFault = e in absurd (cc)) (λ e. refl) (λ e. refl)
 
-pub long_faults : (before ahead : List ℕ) (old mid new : Ends) (ended : SessionEnd) → Takes before old taken.TooLong ahead mid
+pub long_faults : (before ahead : List ℕ) (old mid new : Ends) (ended : SessionEnd) → TakesRequest before old taken.TooLong ahead mid
     → (sent : Result (Unit {0}) Failed) × Puts mid too_long_text sent new × (ended ≡ closed_by sent) → FaultsFor old ended new
 long_faults before ahead old mid new ended takes closed =
     subst (λ e. FaultsFor old e new) (sym closed.2)
@@ -313,7 +313,7 @@ long_faults before ahead old mid new ended takes closed =
     (same_reads taken.TooLong before ahead old mid takes (λ e. let other : taken.TooLong ≡ taken.Failed = e in absurd (cc)))
     takes.writes closed.1)
 
-pub ended_faults : (before ahead : List ℕ) (old new : Ends) → Takes before old taken.End ahead new → FaultsFor old end.Ended new
+pub ended_faults : (before ahead : List ℕ) (old new : Ends) → TakesRequest before old taken.End ahead new → FaultsFor old end.Ended new
 ended_faults before ahead old new takes = record {
   reads = none_rose old.reads.faults new.reads.faults (end.Ended ≡ end.ReadFault)
       (same_reads taken.End before ahead old new takes (λ e. let other : taken.End ≡ taken.Failed = e in absurd (cc)))
@@ -322,7 +322,7 @@ ended_faults before ahead old new takes = record {
       (λ e. let other : end.Ended ≡ end.WriteFault = e in absurd (cc));
 }
 
-pub failed_faults : (before ahead : List ℕ) (old new : Ends) → Takes before old taken.Failed ahead new → FaultsFor old end.ReadFault new
+pub failed_faults : (before ahead : List ℕ) (old new : Ends) → TakesRequest before old taken.Failed ahead new → FaultsFor old end.ReadFault new
 failed_faults before ahead old new takes = record {
   reads = rose_as old.reads.faults new.reads.faults (taken.Failed ≡ taken.Failed) (end.ReadFault ≡ end.ReadFault) takes.cause
       (λ e. refl) (λ e. refl);

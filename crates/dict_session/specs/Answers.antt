@@ -1,14 +1,15 @@
 -- The desk's calls for one request, and the reply that follows from their answers.
-use Rattle.std.specs.Prelude.{◌≡◌, ◌⊎◌, ℕ, List, [], ◌∷◌, Option, Some, None, Result, Ok, Err, if◌then◌else◌, nat_lt, slice_get}
+use Rattle.std.specs.Prelude.{◌≡◌, ◌⊎◌, ℕ, List, [], ◌∷◌, Option, Some, None, Result, Ok, Err, if◌then◌else◌}
+use Rattle.std.specs.Prelude.{nat_lt, slice_get}
 use Rattle.ddl_writing.specs.Canonical.{item_text}
 use Rattle.dict_functions.specs.Answers.{AnswersSeen}
-use Rattle.dict_functions.specs.Calls.{AnswersCall, AreArguments}
+use Rattle.dict_functions.specs.Calls.{AnswersCall, AreCallArguments}
 use Rattle.dict_functions.specs.Keyed.{AnswersKeyed, AreKeys}
 use Rattle.dict_schema.specs.declared.definition.Definition.{Definition}
 use Rattle.dict_schema.specs.declared.definition.FunctionDef.{FunctionDef}
 use Rattle.dict_schema.specs.declared.definition.Item.{Item}
 use Rattle.dict_schema.specs.declared.definition.Item.TheVariants.{Dictionary}
-use Rattle.dict_session.specs.Acts.{Act, Called, Configured, Entered, Keyed, Reloaded, Taught}
+use Rattle.dict_session.specs.Acts.{DeskCall, Called, Configured, Entered, Keyed, Reloaded, Taught}
 use Rattle.dict_session.specs.Asks.{IsAskOf}
 use Rattle.dict_session.specs.Items.{IsFunctionItem, IsKeyedItem}
 use Rattle.dict_session.specs.declared.ask.Ask.{Ask}
@@ -94,7 +95,7 @@ LooksUp None answer reply = ⊥
 
 -- The answer to a lookup in a dictionary whose rows are fetched by key: it is refused before a fetch, it comes from the
 -- rows that were fetched for its keys, or the fetch failed.
-pub data FetchAnswers (d : ℕ) (definition : Definition) (q : Asked) (now : ℕ) (calls : List Act) (reply : Reply)
+pub data FetchAnswers (d : ℕ) (definition : Definition) (q : Asked) (now : ℕ) (calls : List DeskCall) (reply : Reply)
     : Type 0 where
   refused : (refusal : ReplyFault) → AreKeys definition q (Err refusal) → calls ≡ [] → reply ≡ Refused refusal
       → FetchAnswers d definition q now calls reply
@@ -107,19 +108,20 @@ pub data FetchAnswers (d : ℕ) (definition : Definition) (q : Asked) (now : ℕ
 
 -- The answer to a call of a function: it is refused before the function is called, it comes from the values that were
 -- given for its rows of arguments, or the call failed.
-pub data CallAnswers (f : ℕ) (definition : FunctionDef) (q : Asked) (calls : List Act) (reply : Reply) : Type 0 where
-  refused : (refusal : ReplyFault) → AreArguments definition q (Err refusal) → calls ≡ [] → reply ≡ Refused refusal
+pub data CallAnswers (f : ℕ) (definition : FunctionDef) (q : Asked) (calls : List DeskCall) (reply : Reply)
+    : Type 0 where
+  refused : (refusal : ReplyFault) → AreCallArguments definition q (Err refusal) → calls ≡ [] → reply ≡ Refused refusal
       → CallAnswers f definition q calls reply
-  given : (rows : List (List Value)) (values : List Value) → AreArguments definition q (Ok rows)
+  given : (rows : List (List Value)) (values : List Value) → AreCallArguments definition q (Ok rows)
       → calls ≡ Called f rows (Ok values) ∷ [] → AnswersCall definition q values reply
       → CallAnswers f definition q calls reply
-  failed : (rows : List (List Value)) (why : CallFault) → AreArguments definition q (Ok rows)
+  failed : (rows : List (List Value)) (why : CallFault) → AreCallArguments definition q (Ok rows)
       → calls ≡ Called f rows (Err why) ∷ [] → reply ≡ Refused (fault.Call why) → CallAnswers f definition q calls reply
 
 -- ---- one request
 
 -- the calls that are asked for, whatever they answered
-abbrev pub CallsOf : Ask → ℕ → List Act → Type 0
+abbrev pub CallsOf : Ask → ℕ → List DeskCall → Type 0
 CallsOf (Look d) now calls = (answer : Result (Seen Contents) EnterFault) × (calls ≡ Entered d answer ∷ [])
 CallsOf (Reach d number) now calls = (answer : Result (Seen Contents) EnterFault) × (calls ≡ Entered d answer ∷ [])
 CallsOf (ShowEntered d) now calls = (answer : Result (Seen Contents) EnterFault) × (calls ≡ Entered d answer ∷ [])
@@ -134,29 +136,29 @@ CallsOf (Apply f) now calls = (calls ≡ [])
 CallsOf _ now calls = calls ≡ []
 
 -- the calls that are asked for, and the reply that follows from their answers
-abbrev pub Answers : List Item → Heard → Ask → ℕ → List Act → Reply → Type 0
-Answers items heard (Refuse refusal) now calls reply = (calls ≡ []) × (reply ≡ Refused refusal)
-Answers items heard SayBye now calls reply = (calls ≡ []) × (reply ≡ Bye)
-Answers items heard (Look d) now calls reply = (answer : Result (Seen Contents) EnterFault)
+abbrev pub FollowsFrom : List Item → Heard → Ask → ℕ → List DeskCall → Reply → Type 0
+FollowsFrom items heard (Refuse refusal) now calls reply = (calls ≡ []) × (reply ≡ Refused refusal)
+FollowsFrom items heard SayBye now calls reply = (calls ≡ []) × (reply ≡ Bye)
+FollowsFrom items heard (Look d) now calls reply = (answer : Result (Seen Contents) EnterFault)
     × (calls ≡ Entered d answer ∷ []) × LooksUp (asked_in heard) answer reply
-Answers items heard (Reach d number) now calls reply = (answer : Result (Seen Contents) EnterFault)
+FollowsFrom items heard (Reach d number) now calls reply = (answer : Result (Seen Contents) EnterFault)
     × (calls ≡ Entered d answer ∷ []) × (reply ≡ reach_reply number answer)
-Answers items heard (ShowEntered d) now calls reply = (answer : Result (Seen Contents) EnterFault)
+FollowsFrom items heard (ShowEntered d) now calls reply = (answer : Result (Seen Contents) EnterFault)
     × (calls ≡ Entered d answer ∷ []) × (reply ≡ shown_reply (slice_get items d) answer)
-Answers items heard (Show place) now calls reply = (calls ≡ []) × (reply ≡ shown_item (slice_get items place))
-Answers items heard (Load d) now calls reply =
+FollowsFrom items heard (Show place) now calls reply = (calls ≡ []) × (reply ≡ shown_item (slice_get items place))
+FollowsFrom items heard (Load d) now calls reply =
     (end : LoadEnd) × (calls ≡ Reloaded d now end ∷ []) × (reply ≡ load_reply end)
-Answers items heard (Teach d) now calls reply =
+FollowsFrom items heard (Teach d) now calls reply =
     (row : StatusRow) × (calls ≡ Taught d row ∷ []) × (reply ≡ status_reply row)
-Answers items heard Configure now calls reply =
+FollowsFrom items heard Configure now calls reply =
     (end : ConfigEnd) × (calls ≡ Configured now end ∷ []) × (reply ≡ config_reply end)
-Answers items heard (Fetch d) now calls reply = (definition : Definition) × (q : Asked)
+FollowsFrom items heard (Fetch d) now calls reply = (definition : Definition) × (q : Asked)
     × IsKeyedItem items d definition × (asked_in heard ≡ Some q) × FetchAnswers d definition q now calls reply
-Answers items heard (Apply f) now calls reply = (definition : FunctionDef) × (q : Asked)
+FollowsFrom items heard (Apply f) now calls reply = (definition : FunctionDef) × (q : Asked)
     × IsFunctionItem items f definition × (asked_in heard ≡ Some q) × CallAnswers f definition q calls reply
 
 -- a request was answered; or memory was refused: then this is the reply, and the calls may be cut short
-abbrev pub IsServed : List Item → Option Heard → ℕ → List Act → Reply → Type 0
+abbrev pub IsServed : List Item → Option Heard → ℕ → List DeskCall → Reply → Type 0
 IsServed items (Some heard) now calls reply = (ask : Ask) × IsAskOf items heard ask
-    × (Answers items heard ask now calls reply ⊎ (reply ≡ no_memory) × ((calls ≡ []) ⊎ CallsOf ask now calls))
+    × (FollowsFrom items heard ask now calls reply ⊎ (reply ≡ no_memory) × ((calls ≡ []) ⊎ CallsOf ask now calls))
 IsServed items None now calls reply = (reply ≡ no_memory) × (calls ≡ [])

@@ -9,7 +9,7 @@ use Rattle.dict_schema.specs.declared.definition.Item.{Item}
 use Rattle.dict_schema.specs.declared.definition.Layout.{Layout}
 use Rattle.dict_schema.specs.declared.definition.Layout.TheVariants as layout
 use Rattle.dict_schema.specs.declared.definition.Lifetime.{Lifetime}
-use Rattle.dict_session.specs.Acts.{Act}
+use Rattle.dict_session.specs.Acts.{DeskCall}
 use Rattle.dict_value.specs.Values.{FitsColumn}
 use Rattle.dict_value.specs.declared.value.FetchedRow.{FetchedRow}
 use Rattle.dict_value.specs.declared.value.MaybeRow.{MaybeRow}
@@ -18,7 +18,7 @@ use Rattle.dict_version.specs.Contents.{Contents}
 
 pub record Facts (S : Type 0) : Type 1 where
   -- the desk, in its first state, made this call and answered so, and came to its second state
-  pub did : S → Act → S → Type 0
+  pub did : S → DeskCall → S → Type 0
   -- the view of the dictionary at a place
   pub view : S → ℕ → List Contents
   pub items : S → List Item

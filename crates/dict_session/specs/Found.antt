@@ -6,7 +6,7 @@ use Rattle.dict_schema.specs.Sound.{IsSound}
 use Rattle.dict_schema.specs.declared.definition.Definition.{Definition}
 use Rattle.dict_schema.specs.declared.definition.FunctionDef.{FunctionDef}
 use Rattle.dict_schema.specs.declared.definition.Item.{Item}
-use Rattle.dict_session.specs.Acts.{Act, Before, Configured, Entered, Moment, Reloaded, Taught}
+use Rattle.dict_session.specs.Acts.{DeskCall, Before, Configured, Entered, Moment, Reloaded, Taught}
 use Rattle.dict_session.specs.Answers.{no_memory}
 use Rattle.dict_session.specs.Facts.{Facts}
 use Rattle.dict_session.specs.Items.{IsFunctionItem, IsKeyedItem}
@@ -37,7 +37,7 @@ abbrev pub heards : List Exchange → List (Option Heard)
 heards xs = map (λ (x : Exchange). heard_in x.asking) xs
 
 -- two acts are one call, whatever they answered
-abbrev pub IsSameCall : Act → Act → Type 0
+abbrev pub IsSameCall : DeskCall → DeskCall → Type 0
 IsSameCall (Moment now) (Moment later) = ⊤
 IsSameCall (Before now) (Before later) = now ≡ later
 IsSameCall (Entered d answer) (Entered e other) = d ≡ e
@@ -47,7 +47,7 @@ IsSameCall (Configured now end) (Configured later other) = now ≡ later
 IsSameCall _ _ = ⊥
 
 -- memory was found for the answer
-abbrev pub IsFoundAct : Act → Type 0
+abbrev pub IsFoundAct : DeskCall → Type 0
 IsFoundAct (Entered d (Err enter.NoMemory)) = ⊥
 IsFoundAct (Reloaded d now load.NoMemory) = ⊥
 IsFoundAct (Configured now config.NoMemory) = ⊥
@@ -60,12 +60,12 @@ SawSound (Err refusal) = ⊤
 
 -- a desk's acts are one: where memory is found, a call from a state has one answer, and leads to one state
 pub record AreOne {S : Type 0} (facts : Facts S) : Type 0 where
-  pub one : (s t u : S) (act other : Act) → IsSameCall act other → IsFoundAct act → IsFoundAct other
+  pub one : (s t u : S) (act other : DeskCall) → IsSameCall act other → IsFoundAct act → IsFoundAct other
       → facts.did s act t → facts.did s other u → (act ≡ other) × (t ≡ u)
   pub sound : (s t : S) (d : ℕ) (answer : Result (Seen Contents) EnterFault) → facts.did s (Entered d answer) t
       → SawSound answer
 
 -- each item is a dictionary that is fully loaded
-abbrev pub AllLoaded : List Item → Type 0
-AllLoaded items = ((d : ℕ) (definition : Definition) → ¬ (IsKeyedItem items d definition))
+abbrev pub AreFullyLoaded : List Item → Type 0
+AreFullyLoaded items = ((d : ℕ) (definition : Definition) → ¬ (IsKeyedItem items d definition))
     × ((f : ℕ) (definition : FunctionDef) → ¬ (IsFunctionItem items f definition))

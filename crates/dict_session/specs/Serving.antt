@@ -1,8 +1,8 @@
 -- What the calls for one request lead to.
 use Rattle.std.specs.Prelude.{◌≡◌, ◌⊎◌, ◌≤◌, ℕ, List, [], max, ◌==◌, if◌then◌else◌, ⊤}
 use Rattle.dict_functions.specs.Asking.{IsAsked}
-use Rattle.dict_session.specs.Acts.{Act}
-use Rattle.dict_session.specs.Answers.{Answers, CallsOf, no_memory}
+use Rattle.dict_session.specs.Acts.{DeskCall}
+use Rattle.dict_session.specs.Answers.{FollowsFrom, CallsOf, no_memory}
 use Rattle.dict_session.specs.Floors.{Moved, floor_after}
 use Rattle.dict_session.specs.Facts.{Facts}
 use Rattle.dict_session.specs.Items.{IsFunctionItem, IsKeyedItem, IsLoadedItem}
@@ -25,16 +25,16 @@ IsAskedRequest (request.Asked q) = IsAsked q
 IsAskedRequest _ = ⊤
 
 -- the numbers that the acts tell are those of this event for the dictionary at this place
-abbrev pub Tells : List Act → ℕ → CallerEvent → Type 0
+abbrev pub Tells : List DeskCall → ℕ → CallerEvent → Type 0
 Tells acts place event =
     (e floor : ℕ) → floor_after e floor acts ≤ (if place == e then max floor (told_number event) else floor)
 
 -- a request was answered with at most one call
 pub record Answered {S : Type 0} (facts : Facts S) (s : S) (heard : Heard) (asks : Ask) (now : ℕ) (answer : Answer)
     (t : S) : Type 0 where
-  pub calls : List Act
+  pub calls : List DeskCall
   pub moved : Moved facts s calls t
-  pub answers : Answers (facts.items s) heard asks now calls answer.reply
+  pub answers : FollowsFrom (facts.items s) heard asks now calls answer.reply
       ⊎ (answer.reply ≡ no_memory) × ((calls ≡ []) ⊎ CallsOf asks now calls)
   pub tells : Tells calls answer.place answer.event
 

@@ -1,12 +1,13 @@
 -- A session: requests one after another, each with the desk's calls for it and its reply.
-use Rattle.std.specs.Prelude.{◌≡◌, ◌⊎◌, ◌≤◌, ◌<◌, ◌++◌, ℕ, zero, suc, List, [], ◌∷◌, Bool, true, false, Option, Some, None, length, max, ⊤}
+use Rattle.std.specs.Prelude.{◌≡◌, ◌⊎◌, ◌≤◌, ◌<◌, ◌++◌, ℕ, zero, suc, List, [], ◌∷◌, Bool, true, false, Option}
+use Rattle.std.specs.Prelude.{Some, None, length, max, ⊤}
 use Rattle.std.specs.Io.KnownBytes.{prepend_known, append_known}
 use Rattle.std.specs.List.{AllByRecursion, flat_map}
 use mathlib.Core.List.{IsPrefix}
 use Rattle.dict_io.specs.Links.{Ends}
 use Rattle.dict_io.specs.Outside.{HasCause}
 use Rattle.dict_schema.specs.declared.definition.Item.{Item}
-use Rattle.dict_session.specs.Acts.{Act, Moment, Before}
+use Rattle.dict_session.specs.Acts.{DeskCall, Moment, Before}
 use Rattle.dict_session.specs.Answers.{IsServed}
 use Rattle.dict_session.specs.Facts.{Facts}
 use Rattle.dict_session.specs.Floors.{Moved, floor_after}
@@ -51,23 +52,23 @@ pub record Exchange : Type 0 where
   pub text : List ℕ
   pub asking : Asking
   pub now : ℕ
-  pub calls : List Act
+  pub calls : List DeskCall
   pub reply : Reply
 
 -- the desk's calls for a request: the moment, what is due before it, and those that it asked for
-abbrev pub acts_for : ℕ → List Act → List Act
+abbrev pub acts_for : ℕ → List DeskCall → List DeskCall
 acts_for now calls = Moment now ∷ Before now ∷ calls
 
-abbrev pub acts_of : Exchange → List Act
+abbrev pub acts_of : Exchange → List DeskCall
 acts_of x = acts_for x.now x.calls
 
 -- the calls are those that the request asks for, and the reply follows from their answers
-abbrev pub IsAnswered : List Item → Exchange → Type 0
-IsAnswered items x = IsServed items (heard_in x.asking) x.now x.calls x.reply
+abbrev pub IsServedIn : List Item → Exchange → Type 0
+IsServedIn items x = IsServed items (heard_in x.asking) x.now x.calls x.reply
 
 -- ---- requests, one after another
 
-abbrev pub all_acts : List Exchange → List Act
+abbrev pub all_acts : List Exchange → List DeskCall
 all_acts xs = flat_map acts_of xs
 
 abbrev pub bytes : List Exchange → List ℕ
@@ -93,13 +94,13 @@ floor_of (core ∷ cores) (suc e) = floor_of cores e
 
 -- The kept floors never fall, and are not below what the acts tell: a floor that acts raise is at most the greater of
 -- what it was and the kept one.
-pub record KeepsUp (cores : List CallerCore) (acts : List Act) (later : List CallerCore) : Type 0 where
+pub record KeepsUp (cores : List CallerCore) (acts : List DeskCall) (later : List CallerCore) : Type 0 where
   pub many : length later ≡ length cores
   pub risen : (e : ℕ) → e < length cores → floor_of cores e ≤ floor_of later e
   pub told : (e floor : ℕ) → e < length cores → floor_after e floor acts ≤ max floor (floor_of later e)
 
 -- requests were taken and answered, from one state and place to others
-pub record Run {S : Type 0} (facts : Facts S) (s : S) (p : Place) (t : S) (q : Place) : Type 0 where
+pub record SessionRun {S : Type 0} (facts : Facts S) (s : S) (p : Place) (t : S) (q : Place) : Type 0 where
   pub exchanges : List Exchange
   pub out : List ℕ
   pub closing : List ℕ
@@ -110,7 +111,7 @@ pub record Run {S : Type 0} (facts : Facts S) (s : S) (p : Place) (t : S) (q : P
   pub front : IsPrefix out (texts exchanges ++ closing)
   -- the desk's calls, and no others, lead from its state before to that after
   pub moved : Moved facts s (all_acts exchanges) t
-  pub answered : AllByRecursion (IsAnswered (facts.items s)) exchanges
+  pub answered : AllByRecursion (IsServedIn (facts.items s)) exchanges
 
 -- ---- how a session ends
 
@@ -158,10 +159,10 @@ pub record FaultsFor (old : Ends) (ended : SessionEnd) (new : Ends) : Type 0 whe
   pub writes : HasCause old.writes.faults new.writes.faults (ended ≡ end.WriteFault)
 
 -- a session from a place on, to its end
-pub record Ending {S : Type 0} (facts : Facts S) (s : S) (p : Place) (ended : SessionEnd) (t : S) (new : Ends)
+pub record SessionEnds {S : Type 0} (facts : Facts S) (s : S) (p : Place) (ended : SessionEnd) (t : S) (new : Ends)
     (cores later : List CallerCore) : Type 0 where
   pub tail : List ℕ
-  pub run : Run facts s p t (place tail new)
+  pub run : SessionRun facts s p t (place tail new)
   pub requests : AreRequests ((tail ≡ []) × NothingLeft new.reads.known) run.exchanges
   pub is : IsEnd ended run.exchanges run.out run.closing tail new.reads.known
   pub kept : KeepsUp cores (all_acts run.exchanges) later
@@ -172,6 +173,6 @@ pub record Serves {S : Type 0} (facts : Facts S) (s : S) (old : Ends) (ended : S
   pub first : List CallerCore
   pub kept : List CallerCore
   pub from_zero : (e : ℕ) → floor_of first e ≡ 0
-  pub ending : Ending facts s (place [] old) ended t new first kept
+  pub ending : SessionEnds facts s (place [] old) ended t new first kept
   pub many : ended ≡ end.NoMemory ⊎ (length kept ≡ length (facts.items s))
   pub faults : FaultsFor old ended new

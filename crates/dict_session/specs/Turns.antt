@@ -4,12 +4,13 @@ use Rattle.std.specs.Prelude.{if◌then◌else◌}
 use Rattle.std.specs.List.{AllByRecursion}
 use Rattle.dict_io.specs.Links.{Ends, Puts}
 use Rattle.dict_io.specs.declared.outside.Failed.{Failed}
-use Rattle.dict_session.specs.Acts.{Act}
+use Rattle.dict_session.specs.Acts.{DeskCall}
 use Rattle.dict_session.specs.Answers.{IsServed}
 use Rattle.dict_session.specs.Facts.{Facts}
 use Rattle.dict_session.specs.Floors.{Moved}
 use Rattle.dict_session.specs.Serving.{Tells}
-use Rattle.dict_session.specs.Session.{Ending, Exchange, FaultsFor, KeepsUp, NoneQuits, Place, Run, acts_for, all_acts}
+use Rattle.dict_session.specs.Session.{SessionEnds, Exchange, FaultsFor, KeepsUp, NoneQuits, Place, SessionRun}
+use Rattle.dict_session.specs.Session.{acts_for, all_acts}
 use Rattle.dict_session.specs.Session.{asks_to_quit, floor_of, heard_in, place, texts}
 use Rattle.dict_session.specs.declared.answer.Answer.{Answer}
 use Rattle.dict_session.specs.declared.session.SessionEnd.{SessionEnd}
@@ -28,7 +29,7 @@ use Rattle.wire_text.specs.declared.reply.Reply.{Reply}
 -- what was heard was answered at this moment
 pub record AnsweredAt {S : Type 0} (facts : Facts S) (s : S) (heard : Option Heard) (now : ℕ) (answer : Answer) (t : S)
     : Type 0 where
-  pub calls : List Act
+  pub calls : List DeskCall
   pub moved : Moved facts s calls t
   pub served : IsServed (facts.items s) heard now calls answer.reply
   pub tells : Tells calls answer.place answer.event
@@ -37,14 +38,14 @@ pub record AnsweredAt {S : Type 0} (facts : Facts S) (s : S) (heard : Option Hea
 pub record Exchanged {S : Type 0} (facts : Facts S) (s : S) (heard : Option Heard) (answer : Answer) (t : S)
     : Type 0 where
   pub now : ℕ
-  pub calls : List Act
+  pub calls : List DeskCall
   pub moved : Moved facts s (acts_for now calls) t
   pub served : IsServed (facts.items s) heard now calls answer.reply
   pub tells : Tells calls answer.place answer.event
 
 -- no number is known
-abbrev pub empty_caller : CallerCore
-empty_caller = record { floor = 0 }
+abbrev pub unknown_floor : CallerCore
+unknown_floor = record { floor = 0 }
 
 -- the floor that is kept for the item at a place was raised by an event, and no other
 pub record RaisedAt (cores : List CallerCore) (place : ℕ) (event : CallerEvent) (later : List CallerCore) : Type 0 where
@@ -72,7 +73,7 @@ closed_by (Err _) = end.WriteFault
 pub record IsRequestTurn {S : Type 0} (facts : Facts S) (s : S) (old : Ends) (asking : Asking) (last : Bool)
     (made : Turn) (t : S) (new : Ends) (cores later : List CallerCore) : Type 0 where
   pub now : ℕ
-  pub calls : List Act
+  pub calls : List DeskCall
   pub said : Reply
   pub sent : Result (Unit {0}) Failed
   pub moved : Moved facts s (acts_for now calls) t
@@ -88,7 +89,7 @@ WasWhole x = IsRequestText false x.text x.asking
 -- so many requests were answered, and the session goes on
 pub record Going {S : Type 0} (facts : Facts S) (s : S) (p : Place) (t : S) (q : Place) (count : ℕ)
     (cores later : List CallerCore) : Type 0 where
-  pub run : Run facts s p t q
+  pub run : SessionRun facts s p t q
   pub closing : run.closing ≡ []
   pub all : run.out ≡ texts run.exchanges
   pub whole : AllByRecursion WasWhole run.exchanges
@@ -106,7 +107,8 @@ IsTurnEnd _ = ⊤
 abbrev pub IsTurn : {S : Type 0} → Facts S → S → Place → Turn → S → List ℕ → Ends → List CallerCore
     → List CallerCore → Type 0
 IsTurn facts s p turn.More t ahead new cores later = Going facts s p t (place ahead new) 1 cores later
-IsTurn facts s p (turn.Over ended) t ahead new cores later = IsTurnEnd ended × Ending facts s p ended t new cores later
+IsTurn facts s p (turn.Over ended) t ahead new cores later =
+    IsTurnEnd ended × SessionEnds facts s p ended t new cores later
 
 -- the faults of a turn; where the session goes on there was none
 abbrev pub TurnFaults : Ends → Turn → Ends → Type 0

@@ -1,7 +1,7 @@
 // Lookups in dictionaries whose rows are fetched by key, and calls of functions.
 ghost use Rattle.std.specs.Prelude.{◌≡◌, ◌≤◌, All, Err, IfSome, List, Ok};
 ghost use Rattle.dict_functions.specs.Asking.{IsLookup};
-ghost use Rattle.dict_functions.specs.Calls.{AnswersCall, AreArguments, AreGiven, IsCall};
+ghost use Rattle.dict_functions.specs.Calls.{AnswersCall, AreCallArguments, AreGiven, IsCall};
 ghost use Rattle.dict_functions.specs.Keyed.{AnswersKeyed, AreFetched, AreKeys};
 ghost use Rattle.dict_io.specs.declared.outside.TheConstants.{LAST_MOMENT};
 ghost use Rattle.dict_schema.specs.Sound.{IsSound, IsSoundFunction, IsSoundItem};
@@ -112,7 +112,7 @@ fn rows_at(alloc: Global, items: &[Item], place: u32, q: &Asked) -> Result<ListO
     requires sound { All IsSoundItem items.now }
     requires call { IsCall q.now }
     ensures { (f : FunctionOf) → IsFunctionItem items.now place f
-        → UnlessNoMemory (Err fault.NoMemory) result (AreArguments f q.now result) }
+        → UnlessNoMemory (Err fault.NoMemory) result (AreCallArguments f q.now result) }
 {
     match function_at(items, place) {
         Some(f) => rows_of(alloc, f, q),
@@ -131,7 +131,7 @@ fn answer_values(
     requires sound { All IsSoundItem items.now }
     requires call { IsCall q.now }
     requires given { (f : FunctionOf) → IsFunctionItem items.now place f
-        → (rows : List (List ValueOf)) × AreArguments f q.now (Ok rows) × AreGiven f rows values.now }
+        → (rows : List (List ValueOf)) × AreCallArguments f q.now (Ok rows) × AreGiven f rows values.now }
     ensures { (f : FunctionOf) → IsFunctionItem items.now place f
         → UnlessNoMemory (Refused fault.NoMemory) result (AnswersCall f q.now values.now result) }
 {

@@ -1,11 +1,11 @@
 // What holds of the acts of every desk, whatever is called.
 ghost use Rattle.std.specs.Prelude.{◌≡◌, ◌++◌, ◌∷◌, [], ℕ, List, IfOk, Result, Some};
 ghost use Rattle.dict_io.specs.Links.{Ends};
-ghost use Rattle.dict_session.specs.Acts.{Act, Entered};
+ghost use Rattle.dict_session.specs.Acts.{DeskCall, Entered};
 ghost use Rattle.dict_session.specs.Facts.{Grows};
 ghost use Rattle.dict_session.specs.Floors.{Moved};
-ghost use Rattle.dict_session.specs.Found.{AllFound, AllLoaded, AreOne, IsByInput, heards};
-ghost use Rattle.dict_session.specs.Session.{Ending, all_acts, place};
+ghost use Rattle.dict_session.specs.Found.{AllFound, AreFullyLoaded, AreOne, IsByInput, heards};
+ghost use Rattle.dict_session.specs.Session.{SessionEnds, all_acts, place};
 ghost use Rattle.dict_session.specs.declared.session.SessionEnd.{SessionEnd};
 ghost use Rattle.dict_version.specs.Contents.{Contents};
 ghost use Rattle.load_core.specs.declared.caller.CallerCore.{CallerCore};
@@ -17,7 +17,7 @@ use crate::desk::Desk;
 /// Acts that lead on from where others led: what was seen stands in the views at the end, and the numbers never fall
 /// along both.
 pub fn acts_follow<D: Desk>()
-    ensures { (s t u : D.State) (acts later : List Act) → Moved D.facts s acts t → Moved D.facts t later u
+    ensures { (s t u : D.State) (acts later : List DeskCall) → Moved D.facts s acts t → Moved D.facts t later u
         → Moved D.facts s (acts ++ later) u }
 {}
 
@@ -33,8 +33,8 @@ pub fn an_entering_keeps_floors<D: Desk>()
 pub fn one_list_heard<D: Desk>()
     ensures { (s t u v : D.State) (old new before after : Ends) (ended other : SessionEnd)
         (cores later kept left : List CallerCore) (input : List ℕ)
-        (a : Ending D.facts s (place [] old) ended t new cores later)
-        (b : Ending D.facts u (place [] before) other v after kept left)
+        (a : SessionEnds D.facts s (place [] old) ended t new cores later)
+        (b : SessionEnds D.facts u (place [] before) other v after kept left)
         → old.reads.known ≡ Some input → before.reads.known ≡ Some input → IsByInput ended → IsByInput other
         → AllFound a.run.exchanges → AllFound b.run.exchanges
         → (heards a.run.exchanges ≡ heards b.run.exchanges) × (ended ≡ other) }
@@ -46,9 +46,9 @@ pub fn one_list_heard<D: Desk>()
 pub fn one_session<D: Desk>()
     ensures { AreOne D.facts → (s t v : D.State) (old new before after : Ends) (ended other : SessionEnd)
         (cores later kept left : List CallerCore) (input : List ℕ)
-        (a : Ending D.facts s (place [] old) ended t new cores later)
-        (b : Ending D.facts s (place [] before) other v after kept left)
-        → AllLoaded (D.facts.items s)
+        (a : SessionEnds D.facts s (place [] old) ended t new cores later)
+        (b : SessionEnds D.facts s (place [] before) other v after kept left)
+        → AreFullyLoaded (D.facts.items s)
         → old.reads.known ≡ Some input → before.reads.known ≡ Some input → IsByInput ended → IsByInput other
         → AllFound a.run.exchanges → AllFound b.run.exchanges
         → (ended ≡ other) × (a.run.out ≡ b.run.out)

@@ -3,10 +3,11 @@ ghost use Rattle.std.specs.Prelude.{◌≡◌, ◌≢◌, ◌≤◌, ◌<◌, �
 ghost use Rattle.dict_io.specs.Links.{Puts};
 ghost use Rattle.dict_io.specs.declared.outside.Failed.{Failed as FailedOf};
 ghost use Rattle.dict_session.specs.Serving.{OrNoMemory};
-ghost use Rattle.dict_session.specs.Session.{Ending, FaultsFor, IsAskedIn, Serves, asks_to_quit, floor_of, heard_in};
+ghost use Rattle.dict_session.specs.Session.{SessionEnds, FaultsFor, IsAskedIn, Serves, asks_to_quit, floor_of};
+ghost use Rattle.dict_session.specs.Session.{heard_in};
 ghost use Rattle.dict_session.specs.Session.{place, too_long_text};
 ghost use Rattle.dict_session.specs.Turns.{AnsweredAt, Exchanged, IsRequestTurn, IsTurn, RaisedAt, TurnFaults};
-ghost use Rattle.dict_session.specs.Turns.{closed_by, empty_caller, turn_after};
+ghost use Rattle.dict_session.specs.Turns.{closed_by, unknown_floor, turn_after};
 ghost use Rattle.dict_io.specs.declared.outside.TheConstants.{LAST_MOMENT};
 ghost use Rattle.wire_text.specs.Replies.{reply_text};
 
@@ -144,7 +145,7 @@ impl Room {
     /// All the memory that a session takes before its first read.
     fn new(alloc: Global, items: usize) -> Result<Room, NoMemory>
         ensures ahead { IfOk result (λ room. room.lines.ahead ≡ []) }
-        ensures floors { IfOk result (λ room. room.floors.items ≡ replicate items empty_caller) }
+        ensures floors { IfOk result (λ room. room.floors.items ≡ replicate items unknown_floor) }
     {
         let floors = match Vec::from_elem(alloc, CallerCore::new(), items) {
             Ok(floors) => floors,
@@ -229,7 +230,7 @@ fn serve_all<L: Link, D: Desk, G: Gate>(
     room: &mut Room,
 ) -> SessionEnd
     requires { (L.ends link.old).reads.ended ≡ false }
-    ensures ending { Ending D.facts (D.state desk.old) (place room.old.lines.ahead (L.ends link.old)) result
+    ensures ending { SessionEnds D.facts (D.state desk.old) (place room.old.lines.ahead (L.ends link.old)) result
         (D.state desk.new) (L.ends link.new) room.old.floors.items room.new.floors.items }
     ensures faults { FaultsFor (L.ends link.old) result (L.ends link.new) }
     ensures before { result ≢ SessionEnd.NoMemory }

@@ -6,7 +6,7 @@ use Rattle.dict_schema.specs.declared.definition.Definition.{Definition}
 use Rattle.dict_value.specs.declared.value.AttrType.{AttrType}
 use Rattle.dict_value.specs.declared.value.TheConstants.{MOST_ROWS}
 use Rattle.dict_value.specs.declared.value.Value.{Value}
-use Rattle.dict_version.specs.Keys.{NamesParent, key_lists_of, numbers_of, parents_of, ranges_of, texts_of}
+use Rattle.dict_version.specs.Keys.{NamesParent, key_lists_of, numbers_of, parents_of, ranges_of, key_texts}
 use Rattle.dict_version.specs.Lookups.{lookup_by}
 use Rattle.dict_version.specs.Rows.{LayoutTakes, TakesRows}
 use Rattle.dict_version.specs.declared.index.Index.{Index}
@@ -38,7 +38,7 @@ IsIndexBy by.KeyList d rows (index.KeyLists table) =
     IsKeyTableOf (key_lists_of d rows) table.bytes table.entries table.cells.items
 IsIndexBy (by.Range strategy) d rows (index.Ranges ranged) =
     IsRangedOf (key_lists_of d rows) (ranges_of d rows) strategy ranged.keys ranged.spans ranged.edges ranged.winners
-IsIndexBy by.Address d rows (index.Prefixes trie) = AreTriesOf (texts_of rows) trie.v4 trie.v6 trie.leaves
+IsIndexBy by.Address d rows (index.Prefixes trie) = AreTriesOf (key_texts rows) trie.v4 trie.v6 trie.leaves
 IsIndexBy _ d rows _ = ⊥
 
 -- what holds of each version

@@ -18,9 +18,9 @@ use Rattle.range_layout.specs.declared.ends.End.TheVariants.{Free, At}
 use Rattle.range_layout.specs.declared.ends.Ends.{Ends}
 
 -- the number of a key that is one UInt64; a row that begins otherwise has none, and counts as 0
-abbrev pub number_in : Option Value → ℕ
-number_in (Some (U n)) = n
-number_in _ = 0
+abbrev pub key_number : Option Value → ℕ
+key_number (Some (U n)) = n
+key_number _ = 0
 
 -- the text of a key that is one String
 abbrev pub text_in : Option Value → List ℕ
@@ -28,12 +28,12 @@ text_in (Some (S text)) = text
 text_in _ = []
 
 -- the end of a range that a value is: a number, a day or a second; NULL is an open one
-abbrev pub end_in : Option Value → End
-end_in (Some (U n)) = At (pos n)
-end_in (Some (I z)) = At z
-end_in (Some (Day n)) = At (pos n)
-end_in (Some (Second n)) = At (pos n)
-end_in _ = Free
+abbrev pub range_end : Option Value → End
+range_end (Some (U n)) = At (pos n)
+range_end (Some (I z)) = At z
+range_end (Some (Day n)) = At (pos n)
+range_end (Some (Second n)) = At (pos n)
+range_end _ = Free
 
 -- the parent that a value names: NULL is none
 abbrev pub parent_in : Option Value → Parent
@@ -42,10 +42,10 @@ parent_in _ = Top
 
 -- the numbers that rows begin with, and the texts
 abbrev pub numbers_of : List (List Value) → List ℕ
-numbers_of rows = map (λ row. number_in (slice_get row 0)) rows
+numbers_of rows = map (λ row. key_number (slice_get row 0)) rows
 
-abbrev pub texts_of : List (List Value) → List (List ℕ)
-texts_of rows = map (λ row. text_in (slice_get row 0)) rows
+abbrev pub key_texts : List (List Value) → List (List ℕ)
+key_texts rows = map (λ row. text_in (slice_get row 0)) rows
 
 -- the first values of each row, as many as there are key columns
 abbrev pub key_lists_of : Definition → List (List Value) → List (List Value)
@@ -53,7 +53,7 @@ key_lists_of d rows = map (take (length d.keys)) rows
 
 -- the range of a row: its start and its end stand behind its keys
 abbrev pub range_behind : ℕ → List Value → Ends
-range_behind count row = record { low = end_in (slice_get row count); high = end_in (slice_get row (count + 1)) }
+range_behind count row = record { low = range_end (slice_get row count); high = range_end (slice_get row (count + 1)) }
 
 abbrev pub ranges_of : Definition → List (List Value) → List Ends
 ranges_of d rows = map (range_behind (length d.keys)) rows

@@ -7,7 +7,7 @@ use Rattle.dict_value.specs.FindByKey.{FindsByKey}
 use Rattle.dict_value.specs.declared.value.Address.{Address}
 use Rattle.dict_value.specs.declared.value.Address.TheVariants as address
 use Rattle.dict_value.specs.declared.value.Value.{Value}
-use Rattle.dict_version.specs.Keys.{key_lists_of, numbers_of, ranges_of, texts_of}
+use Rattle.dict_version.specs.Keys.{key_lists_of, numbers_of, ranges_of, key_texts}
 use Rattle.dict_version.specs.declared.key.Key.{Key}
 use Rattle.dict_version.specs.declared.key.Key.TheVariants as key
 use Rattle.dict_version.specs.declared.lookup.LookupBy.{LookupBy}
@@ -37,8 +37,8 @@ FindsBy by.Number d rows (key.Simple number) found = FindsByKey (numbers_of rows
 FindsBy by.KeyList d rows (key.List values) found = FindsByKey (key_lists_of d rows) values found
 FindsBy (by.Range strategy) d rows (key.Ranged values point) found =
     FindsByRange (key_lists_of d rows) (ranges_of d rows) strategy values point found
-FindsBy by.Address d rows (key.V4 bits) found = FindsByAddress (texts_of rows) (address.V4 bits) found
-FindsBy by.Address d rows (key.V6 bits) found = FindsByAddress (texts_of rows) (address.V6 bits) found
+FindsBy by.Address d rows (key.V4 bits) found = FindsByAddress (key_texts rows) (address.V4 bits) found
+FindsBy by.Address d rows (key.V6 bits) found = FindsByAddress (key_texts rows) (address.V6 bits) found
 FindsBy _ d rows _ found = found ≡ None
 
 -- the plain lookup of a key
@@ -54,9 +54,9 @@ StepsBy (by.Range strategy) d rows (key.Ranged values point) old new =
     (with_key : List ℕ) → AreRowsWith (key_lists_of d rows) values with_key
     → (s : ℕ) × AreFew (length with_key) s × (new ≤ old + s)
 StepsBy by.Address d rows (key.V4 bits) old new =
-    (count : ℕ) × HasInCommon (texts_of rows) (address.V4 bits) count × (new ≤ old + (count + 1))
+    (count : ℕ) × HasInCommon (key_texts rows) (address.V4 bits) count × (new ≤ old + (count + 1))
 StepsBy by.Address d rows (key.V6 bits) old new =
-    (count : ℕ) × HasInCommon (texts_of rows) (address.V6 bits) count × (new ≤ old + (count + 1))
+    (count : ℕ) × HasInCommon (key_texts rows) (address.V6 bits) count × (new ≤ old + (count + 1))
 StepsBy _ d rows _ old new = new ≤ old
 
 abbrev pub TakesFew : Definition → List (List Value) → Key → ℕ → ℕ → Type 0

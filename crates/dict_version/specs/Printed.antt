@@ -16,8 +16,8 @@ pub record IsPrintedAt (d : Definition) (rows : List (List Value)) (place column
   pub text_is : text ≡ printed of_column.ty.base value
 
 -- the value stands in a column of some row
-abbrev pub StandsIn : List (List Value) → ℕ → Value → Type 0
-StandsIn rows column value = (place : ℕ) × (place < length rows) × (cell_at rows place column ≡ Some value)
+abbrev pub IsCellOf : List (List Value) → ℕ → Value → Type 0
+IsCellOf rows column value = (place : ℕ) × (place < length rows) × (cell_at rows place column ≡ Some value)
 
 -- the escaped text of the value in each row where it stands in the column
 abbrev pub IsPrintedIn : Definition → List (List Value) → ℕ → Value → List ℕ → Type 0

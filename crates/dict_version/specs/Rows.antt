@@ -6,7 +6,7 @@ use Rattle.dict_schema.specs.declared.definition.Definition.{Definition}
 use Rattle.dict_value.specs.Addresses.{prefix_in}
 use Rattle.dict_value.specs.Values.{FitsColumn}
 use Rattle.dict_value.specs.declared.value.Value.{Value}
-use Rattle.dict_version.specs.Keys.{numbers_of, texts_of}
+use Rattle.dict_version.specs.Keys.{numbers_of, key_texts}
 use Rattle.dict_version.specs.Lookups.{lookup_by}
 use Rattle.dict_version.specs.declared.lookup.LookupBy.{LookupBy}
 use Rattle.dict_version.specs.declared.lookup.LookupBy.TheVariants as by
@@ -24,7 +24,7 @@ TakesRows d rows = All (AllZip FitsColumn (cell_types (shape_of d))) rows
 -- others all
 abbrev pub LayoutTakesBy : LookupBy → List (List Value) → Type 0
 LayoutTakesBy (by.SmallNumber most) rows = All (λ number. number < most) (numbers_of rows)
-LayoutTakesBy by.Address rows = All (λ text. IsSome (prefix_in text)) (texts_of rows)
+LayoutTakesBy by.Address rows = All (λ text. IsSome (prefix_in text)) (key_texts rows)
 LayoutTakesBy _ rows = ⊤
 
 abbrev pub LayoutTakes : Definition → List (List Value) → Type 0
@@ -34,7 +34,7 @@ LayoutTakes d rows = LayoutTakesBy (lookup_by d.layout) rows
 -- whose key is no prefix
 abbrev pub IsRefusedBy : LookupBy → List (List Value) → LayoutFault → Type 0
 IsRefusedBy (by.SmallNumber most) rows (fault.KeyTooLarge number) = IsFirstTooLarge (numbers_of rows) most number
-IsRefusedBy by.Address rows (fault.BadPrefix row) = IsFirstBad (texts_of rows) row
+IsRefusedBy by.Address rows (fault.BadPrefix row) = IsFirstBad (key_texts rows) row
 IsRefusedBy _ rows _ = ⊥
 
 abbrev pub IsRefusedFor : Definition → List (List Value) → LayoutFault → Type 0

@@ -9,8 +9,8 @@ ghost use Rattle.dict_schema.specs.Sound.{IsSound};
 ghost use Rattle.dict_schema.specs.declared.definition.Column.{Column as ColumnOf};
 ghost use Rattle.dict_schema.specs.declared.definition.Role.TheVariants.{Attribute};
 ghost use Rattle.dict_value.specs.declared.value.Value.{Value as ValueOf};
-ghost use Rattle.dict_version.specs.Keys.{NamesParent, attribute_place, end_count, end_in, is_numbered, number_in};
-ghost use Rattle.dict_version.specs.Keys.{numbers_of, parent_in, range_behind, text_in, texts_of};
+ghost use Rattle.dict_version.specs.Keys.{NamesParent, attribute_place, end_count, range_end, is_numbered, key_number};
+ghost use Rattle.dict_version.specs.Keys.{numbers_of, parent_in, range_behind, text_in, key_texts};
 ghost use Rattle.packed_rows.specs.Cells.{meaning};
 
 use dict_schema::{Definition, Layout, RangeOf, is_attribute};
@@ -22,7 +22,7 @@ use std::alloc::Global;
 
 /// The number that a cell is.
 fn number_in(cell: Option<Cell<'_>>) -> u64
-    ensures { result ≡ number_in (option_map meaning cell.entry) }
+    ensures { result ≡ key_number (option_map meaning cell.entry) }
 {
     match cell {
         Some(Cell::U(number)) => number,
@@ -57,7 +57,7 @@ fn text_in(alloc: Global, cell: Option<Cell<'_>>) -> Result<Bytes, NoMemory>
 
 /// The texts that rows begin with.
 pub(crate) fn texts_of(alloc: Global, rows: &Rows) -> Result<Vec<Bytes>, NoMemory>
-    ensures { IfOk result (λ texts. texts.items ≡ texts_of rows.now) }
+    ensures { IfOk result (λ texts. texts.items ≡ key_texts rows.now) }
 {
     let Ok(mut texts) = Vec::with_capacity(alloc, rows.len()) else {
         return Err(NoMemory);
@@ -108,7 +108,7 @@ pub(crate) fn first_values_of(
 
 /// The end of a range that a cell is.
 fn end_in(cell: Option<Cell<'_>>) -> End
-    ensures { result ≡ end_in (option_map meaning cell.entry) }
+    ensures { result ≡ range_end (option_map meaning cell.entry) }
 {
     match cell {
         Some(Cell::U(number)) => End::At(i128::from(number)),

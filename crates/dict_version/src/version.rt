@@ -13,7 +13,7 @@ ghost use Rattle.dict_version.specs.Contents.{contents};
 ghost use Rattle.dict_version.specs.Kept.{HasHierarchy, IsHierarchyOf};
 ghost use Rattle.dict_version.specs.Keys.{NamesParent};
 ghost use Rattle.dict_version.specs.Lookups.{Finds, TakesFew};
-ghost use Rattle.dict_version.specs.Printed.{IsPrintedAt, IsPrintedIn, StandsIn};
+ghost use Rattle.dict_version.specs.Printed.{IsPrintedAt, IsPrintedIn, IsCellOf};
 ghost use Rattle.dict_version.specs.Rows.{IsRefusedFor, LayoutTakes, TakesRows};
 ghost use Rattle.dict_version.specs.declared.fault.LayoutFault.TheVariants as fault;
 ghost use Rattle.packed_rows.specs.Cells.{meaning};
@@ -193,7 +193,7 @@ impl<S: Counter> Version<S> {
     /// `NoMemory` nothing has changed.
     pub fn write_found(&self, cell: &Cell<'_>, column: u32, out: &mut Bytes) -> Result<(), NoMemory>
         requires column { column < length (shape_of self.now.definition) }
-        requires stands { StandsIn self.now.rows column (meaning cell.now) }
+        requires stands { IsCellOf self.now.rows column (meaning cell.now) }
         ensures ok { OnOk result ((text : List ℕ)
             × IsPrintedIn self.now.definition self.now.rows column (meaning cell.now) text
             × (out.new ≡ out.old ++ text)) }

@@ -66,7 +66,8 @@ module _ (rows seed lookup hits total key : ℕ) (before : Counted rows seed loo
         answers = before.answers ++ None ∷ [];
         answered = with-answer None none;
         hits_are = before.hits_are ∙ ap length (sym values);
-        total_is = before.total_is ∙ ap sum (sym values) }
+        total_is = before.total_is ∙ ap sum (sym values);
+      }
 
   pub one-found : (value : ℕ) → FindsByKey (row_keys rows seed) key (Some value) → Counted rows seed (lookup + 1) (hits + 1) (total + value)
   one-found value some =
@@ -75,7 +76,8 @@ module _ (rows seed lookup hits total key : ℕ) (before : Counted rows seed loo
         answers = before.answers ++ Some value ∷ [];
         answered = with-answer (Some value) some;
         hits_are = ap (λ n. n + 1) before.hits_are ∙ sym (length-append (values_in before.answers) (value ∷ [])) ∙ ap length (sym values);
-        total_is = ap (λ n. n + value) before.total_is ∙ sym (sum_by_push (λ n. n) (values_in before.answers) value) ∙ ap sum (sym values) }
+        total_is = ap (λ n. n + value) before.total_is ∙ sym (sum_by_push (λ n. n) (values_in before.answers) value) ∙ ap sum (sym values);
+      }
 
 -- a value that is found is the number of a row
 pub found-below : (rows seed key value : ℕ) → FindsByKey (row_keys rows seed) key (Some value) → value < rows

@@ -6,7 +6,7 @@ use Rattle.std.specs.Io.KnownBytes.{append_known}
 use Rattle.dict_io.specs.Outside.{WritesPrefix}
 use Rattle.dict_io.specs.declared.outside.Failed.{Failed}
 use Rattle.dict_io.proofs.Known.{append_known-twice}
-use Rattle.dictd.specs.Statuses.{Tells}
+use Rattle.dictd.specs.Statuses.{TellsText}
 
 -- a second piece behind a whole first one
 pub wrote-both : (old mid new : Option (List ℕ)) (first second : List ℕ) (result : Result (Unit {0}) Failed) → mid ≡ append_known old first → WritesPrefix mid new second result → WritesPrefix old new (first ++ second) result
@@ -26,6 +26,6 @@ wrote-first old new first second failed other (n, low, a) = (
 )
 
 -- a text that was written, or a front of it where a write failed
-pub tells : (old new : Option (List ℕ)) (text : List ℕ) (failed : Type 0) (result : Result (Unit {0}) Failed) → WritesPrefix old new text result → (IsErr result → failed) → Tells old new text failed
+pub tells : (old new : Option (List ℕ)) (text : List ℕ) (failed : Type 0) (result : Result (Unit {0}) Failed) → WritesPrefix old new text result → (IsErr result → failed) → TellsText old new text failed
 tells old new text failed (Ok u) w cause = record { count = length text; front = omega arith; written = w ∙ ap (append_known old) (sym (take-length text)); whole = inl refl }
 tells old new text failed (Err e) w cause = record { count = w.0; front = w.1; written = w.2; whole = inr (cause refl) }

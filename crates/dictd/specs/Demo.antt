@@ -56,5 +56,5 @@ pub data DemoRun (words : List (List ℕ)) (old : Option (List ℕ)) (told : Sta
   refused : (rows seed : ℕ) → IsDemo words rows seed → told ≡ status.NoMemory → new ≡ old → DemoRun words old told new
   -- the counts over all lookups were written, or a front of their line
   printed : (rows seed hits total : ℕ) (sent : Result (Unit {0}) Failed) → IsDemo words rows seed
-      → Counts rows seed (asked_keys rows seed) hits total → WritesPrefix old new (demo_text rows hits total) sent → told ≡ status_sent sent
-      → DemoRun words old told new
+      → Counts rows seed (asked_keys rows seed) hits total → WritesPrefix old new (demo_text rows hits total) sent
+      → told ≡ status_sent sent → DemoRun words old told new

@@ -106,15 +106,15 @@ abbrev pub once_read : {R : Type 0} → ShelfTold R → Outer R → Outer R
 once_read shelf o = outer (shelf.later o.readings) o.moments o.children
 
 -- a reading of the file gave this
-abbrev pub ReadsFrom : {R : Type 0} → ShelfTold R → R → List ℕ → Result (List Item) ConfigEnd → Type 0
-ReadsFrom shelf readings name result = ReadsItems shelf.filed (shelf.file readings name) name result
+abbrev pub ReadsNamed : {R : Type 0} → ShelfTold R → R → List ℕ → Result (List Item) ConfigEnd → Type 0
+ReadsNamed shelf readings name result = ReadsItems shelf.filed (shelf.file readings name) name result
 
 -- a reading of the file gave these items, each of which is served; or it is told so
 abbrev pub ReadsServed : {R : Type 0} → ShelfTold R → R → List ℕ → Result (List Item) Status → Type 0
-ReadsServed shelf readings name (Ok items) = ReadsFrom shelf readings name (Ok items) × AllLoaded items
+ReadsServed shelf readings name (Ok items) = ReadsNamed shelf readings name (Ok items) × AllLoaded items
 ReadsServed shelf readings name (Err told) =
-    ((why : ConfigEnd) × ReadsFrom shelf readings name (Err why) × (told ≡ status_for why))
-    ⊎ ((items : List Item) × ReadsFrom shelf readings name (Ok items) × (AllLoaded items → ⊥) × IsUnserved told)
+    ((why : ConfigEnd) × ReadsNamed shelf readings name (Err why) × (told ≡ status_for why))
+    ⊎ ((items : List Item) × ReadsNamed shelf readings name (Ok items) × (AllLoaded items → ⊥) × IsUnserved told)
     ⊎ (told ≡ status.NoMemory)
 
 -- the dictionaries of the items were served, or memory was refused before the first load
@@ -131,17 +131,17 @@ pub data OnceRun {R : Type 0} (shelf : ShelfTold R) (ran : Ran) (words : List (L
       → OnceRun shelf ran words o old told o' new
   -- the file has no items
   unread : (name : List ℕ) (seed : ℕ) (why : ConfigEnd) → IsOnce words name seed
-      → ReadsFrom shelf o.readings name (Err why) → told ≡ status_for why → o' ≡ once_read shelf o → new ≡ old
+      → ReadsNamed shelf o.readings name (Err why) → told ≡ status_for why → o' ≡ once_read shelf o → new ≡ old
       → OnceRun shelf ran words o old told o' new
   -- an item of it isn't served yet, which is told of the file's first byte
   unserved : (name : List ℕ) (seed : ℕ) (items : List Item) → IsOnce words name seed
-      → ReadsFrom shelf o.readings name (Ok items) → (AllLoaded items → ⊥) → IsUnserved told
+      → ReadsNamed shelf o.readings name (Ok items) → (AllLoaded items → ⊥) → IsUnserved told
       → o' ≡ once_read shelf o → new ≡ old → OnceRun shelf ran words o old told o' new
   -- memory was refused for the items
   refused : (name : List ℕ) (seed : ℕ) → IsOnce words name seed → told ≡ status.NoMemory → o' ≡ once_read shelf o
       → new ≡ old → OnceRun shelf ran words o old told o' new
   -- the dictionaries of the file are served
   served : (name : List ℕ) (seed : ℕ) (items : List Item) (folder : List ℕ) (ended : SessionEnd)
-      → IsOnce words name seed → ReadsFrom shelf o.readings name (Ok items) → AllLoaded items → IsFolder name folder
+      → IsOnce words name seed → ReadsNamed shelf o.readings name (Ok items) → AllLoaded items → IsFolder name folder
       → ServesIn shelf ran items name folder seed (once_read shelf o) old ended o' new → told ≡ status_of ended
       → OnceRun shelf ran words o old told o' new

@@ -39,7 +39,7 @@ status_text DefsTooLong = codes "definitions too long" ++ 10 ∷ []
 status_text NoMemory = codes "no memory" ++ 10 ∷ []
 
 -- a text was written, or a front of it and the count of faults rose
-pub record Tells (old new : Option (List ℕ)) (text : List ℕ) (failed : Type 0) : Type 0 where
+pub record TellsText (old new : Option (List ℕ)) (text : List ℕ) (failed : Type 0) : Type 0 where
   pub count : ℕ
   pub front : count ≤ length text
   pub written : new ≡ append_known old (take count text)

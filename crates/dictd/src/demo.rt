@@ -2,7 +2,7 @@
 ghost use Rattle.std.specs.Prelude.{◌≡◌, ◌<◌, ◌≤◌, IfOk, List, map, string_bytes, ℕ};
 ghost use Rattle.dict_io.specs.Outside.{HasCause, Rose};
 ghost use Rattle.dictd.specs.Demo.{Counts as CountsOf, DemoRun, asked_keys, demo_text};
-ghost use Rattle.dictd.specs.Statuses.{Tells, status_text};
+ghost use Rattle.dictd.specs.Statuses.{TellsText, status_text};
 
 mod counts;
 mod engine;
@@ -32,8 +32,8 @@ fn demo_line(alloc: Global, rows: u64, counts: Counts) -> Result<Bytes, NoMemory
     Ok(line)
 }
 
-/// What all lookups count, by the key table; the same lookups through a session are compared with it. Counts that differ
-/// are answered as want of memory, since a session that had it answers the same.
+/// What all lookups count, by the key table; the same lookups through a session are compared with it. Counts that
+/// differ are answered as want of memory, since a session that had it answers the same.
 fn counts_of(alloc: Global, rows: u64, seed: u64) -> Result<Counts, NoMemory>
     requires some { 0 < rows }
     requires few { rows ≤ MOST_DEMO_ROWS }
@@ -82,7 +82,7 @@ fn run<O: Sink>(alloc: Global, words: &[String], out: &mut O) -> Status
 pub fn demo<O: Sink, E: Sink>(alloc: Global, words: &[String], out: &mut O, err: &mut E) -> Status
     ensures run { DemoRun (map string_bytes words.now) (O.written out.old) result (O.written out.new) }
     ensures writes { HasCause (O.write_faults out.old) (O.write_faults out.new) (result ≡ Status.WriteFault) }
-    ensures told { Tells (E.written err.old) (E.written err.new) (status_text result)
+    ensures told { TellsText (E.written err.old) (E.written err.new) (status_text result)
         (Rose (E.write_faults err.old) (E.write_faults err.new)) }
 {
     let status = run(alloc, words, out);

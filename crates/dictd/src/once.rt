@@ -5,7 +5,7 @@ ghost use Rattle.dict_hub.specs.Over.{children_of};
 ghost use Rattle.dict_io.specs.Outside.{HasCause, Rose};
 ghost use Rattle.dictd.specs.OneRun.{IsUnserved, OnceRun, ReadsServed, ServesIn};
 ghost use Rattle.dictd.specs.OneRun.{outer, shelf_told, status_for, status_of};
-ghost use Rattle.dictd.specs.Statuses.{Tells, status_text};
+ghost use Rattle.dictd.specs.Statuses.{TellsText, status_text};
 
 use crate::status::{Status, tell};
 use crate::words::once_words;
@@ -225,7 +225,7 @@ pub fn once<F: Shelf, S: Spawner, K: Clock, L: Link, E: Sink>(
         (result.status ≡ Status.ReadFault) }
     ensures writes { HasCause (L.ends link.old).writes.faults (L.ends link.new).writes.faults
         (result.status ≡ Status.WriteFault) }
-    ensures told { Tells (E.written err.old) (E.written err.new) (status_text result.status)
+    ensures told { TellsText (E.written err.old) (E.written err.new) (status_text result.status)
         (Rose (E.write_faults err.old) (E.write_faults err.new)) }
 {
     let ended = run(alloc, words, outside, link);

@@ -1,7 +1,7 @@
 // How a run of the program ends: its status, the number that tells it to the caller, and its text.
 ghost use Rattle.std.specs.Prelude.{◌≡◌, ◌++◌, ◌∷◌, [], IsErr, codes, decimal};
 ghost use Rattle.dict_io.specs.Outside.{HasCause, Rose, WritesPrefix};
-ghost use Rattle.dictd.specs.Statuses.{Tells, fault_text, status_text};
+ghost use Rattle.dictd.specs.Statuses.{TellsText, fault_text, status_text};
 
 use dict_io::{Failed, Sink, write_all};
 use itoa::Buffer;
@@ -128,7 +128,7 @@ fn write_status<E: Sink>(err: &mut E, status: Status) -> Result<(), Failed>
 
 /// Tells a status on the error output; a write there that fails is passed over.
 pub fn tell<E: Sink>(err: &mut E, status: Status)
-    ensures { Tells (E.written err.old) (E.written err.new) (status_text status)
+    ensures { TellsText (E.written err.old) (E.written err.new) (status_text status)
         (Rose (E.write_faults err.old) (E.write_faults err.new)) }
 {
     let _ = write_status(err, status);

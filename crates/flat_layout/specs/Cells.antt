@@ -22,6 +22,6 @@ pub record IsFirstTooLarge (keys : List ℕ) (limit key : ℕ) : Type 0 where
   pub before : (earlier other : ℕ) → earlier < place → HasKeyAt keys other earlier → other < limit
 
 -- why a list of keys has no cells, want of memory aside
-abbrev pub IsRefusedFor : List ℕ → ℕ → FlatFault → Type 0
-IsRefusedFor keys limit (fault.KeyTooLarge key) = IsFirstTooLarge keys limit key
-IsRefusedFor keys limit fault.NoMemory = ⊥
+abbrev pub IsFlatRefused : List ℕ → ℕ → FlatFault → Type 0
+IsFlatRefused keys limit (fault.KeyTooLarge key) = IsFirstTooLarge keys limit key
+IsFlatRefused keys limit fault.NoMemory = ⊥

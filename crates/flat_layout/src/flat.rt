@@ -4,7 +4,7 @@ ghost use Rattle.std.specs.Prelude.{replicate, slice_index};
 ghost use Rattle.dict_value.specs.FindByKey.{FindsByKey};
 ghost use Rattle.dict_value.specs.Memory.{UnlessNoMemory};
 ghost use Rattle.dict_value.specs.declared.value.TheConstants.{MOST_ROWS};
-ghost use Rattle.flat_layout.specs.Cells.{AreCellsOf, IsFirstTooLarge, IsRefusedFor};
+ghost use Rattle.flat_layout.specs.Cells.{AreCellsOf, IsFirstTooLarge, IsFlatRefused};
 ghost use Rattle.flat_layout.specs.steps.Filling.{CellTells};
 ghost use Rattle.flat_layout.specs.declared.flat.FlatFault.TheVariants as fault;
 
@@ -31,7 +31,7 @@ impl<S: Counter> Flat<S> {
         requires { length keys.now ≤ MOST_ROWS }
         ensures cells { IfOk result (λ flat. AreCellsOf keys.now flat.cells) }
         ensures small { OnOk result (All (λ key. key < max) keys.now) }
-        ensures large { UnlessNoMemory (Err fault.NoMemory) result (IfErr result (IsRefusedFor keys.now max)) }
+        ensures large { UnlessNoMemory (Err fault.NoMemory) result (IfErr result (IsFlatRefused keys.now max)) }
     {
         let room = match room_for(keys, max) {
             Ok(room) => room,

@@ -9,7 +9,7 @@ use denote.Bor.{Bor}
 use Rattle.hashed_layout.specs.KeyHash.{hashed_on}
 use Rattle.dict_value.specs.declared.value.Value.{Value}
 use Rattle.dict_value.specs.declared.value.Value.TheVariants.{U, I, S, Day, Second, Id, V4, V6, Dec, Null}
-use Rattle.hashed_layout.specs.KeyBytes.{BeginsWithKey, digits_of, digits_to, key_bytes, kind_of, number_of, string_of, value_bytes}
+use Rattle.hashed_layout.specs.KeyBytes.{BeginsWithKey, digits_of, digits_to, key_bytes, kind_of, magnitude_of, string_of, value_bytes}
 use Rattle.hashed_layout.specs.declared.key_bytes.TheConstants.{END_MARK}
 
 -- ---- digits
@@ -71,7 +71,7 @@ made k n text =
     cond (eqb k 1) (U n) (cond (eqb k 2) (I (pos n)) (cond (eqb k 3) (I (negsuc (n - 1))) (cond (eqb k 4) (S text) (cond (eqb k 5) (Day n) (cond (eqb k 6) (Second n)
     (cond (eqb k 7) (Id n) (cond (eqb k 8) (V4 n) (cond (eqb k 9) (V6 n) (cond (eqb k 10) (Dec (pos n)) (cond (eqb k 11) (Dec (negsuc (n - 1))) Null))))))))))
 
-value-made : (v : Value) → v ≡ made (kind_of v) (number_of v) (string_of v)
+value-made : (v : Value) → v ≡ made (kind_of v) (magnitude_of v) (string_of v)
 unfolding made
 value-made Null = refl
 value-made (U n) = refl
@@ -90,7 +90,7 @@ value-made (Dec (negsuc n)) = let e : n ≡ suc n - 1 = omega arith in ap (λ k.
 text_length : ℕ → ℕ → ℕ
 text_length k n = cond (eqb k 4) n 0
 
-text-length : (v : Value) → length (string_of v) ≡ text_length (kind_of v) (number_of v)
+text-length : (v : Value) → length (string_of v) ≡ text_length (kind_of v) (magnitude_of v)
 unfolding text_length
 text-length Null = refl
 text-length (U n) = refl
@@ -138,16 +138,16 @@ tail (x ∷ xs) = xs
 values-same : (a b : Value) (r s : List ℕ) → value_bytes a ++ r ≡ value_bytes b ++ s → (a ≡ b) × (r ≡ s)
 unfolding head tail
 values-same a b r s e =
-    let da = digits_of (number_of a) in
-    let db = digits_of (number_of b) in
+    let da = digits_of (magnitude_of a) in
+    let db = digits_of (magnitude_of b) in
     let kinds : kind_of a ≡ kind_of b = ap head e in
     let behind : length da ∷ (da ++ string_of a) ++ r ≡ length db ∷ (db ++ string_of b) ++ s = ap tail e in
     let sizes : length da ≡ length db = ap head behind in
     let joined : (da ++ string_of a) ++ r ≡ (db ++ string_of b) ++ s = ap tail behind in
     let apart : da ++ (string_of a ++ r) ≡ db ++ (string_of b ++ s) = sym (append_assoc da (string_of a) r) ∙ joined ∙ append_assoc db (string_of b) s in
-    let numbers : number_of a ≡ number_of b = digits-tell (number_of a) (number_of b) (fronts-same da db (string_of a ++ r) (string_of b ++ s) sizes apart) in
+    let numbers : magnitude_of a ≡ magnitude_of b = digits-tell (magnitude_of a) (magnitude_of b) (fronts-same da db (string_of a ++ r) (string_of b ++ s) sizes apart) in
     let texts : string_of a ++ r ≡ string_of b ++ s = ends-same da db (string_of a ++ r) (string_of b ++ s) sizes apart in
-    let lengths : length (string_of a) ≡ length (string_of b) = text-length a ∙ ap (λ k. text_length k (number_of a)) kinds ∙ ap (text_length (kind_of b)) numbers ∙ sym (text-length b) in
+    let lengths : length (string_of a) ≡ length (string_of b) = text-length a ∙ ap (λ k. text_length k (magnitude_of a)) kinds ∙ ap (text_length (kind_of b)) numbers ∙ sym (text-length b) in
     let text : string_of a ≡ string_of b = fronts-same (string_of a) (string_of b) r s lengths texts in
     (value-made a ∙ (λ i. made (kinds i) (numbers i) (text i)) ∙ sym (value-made b), ends-same (string_of a) (string_of b) r s lengths texts)
 

@@ -9,7 +9,7 @@ use Rattle.std.proofs.lemmas.Option.{slice_get-get_or, slice_get_past, slice_get
 use Rattle.dict_value.specs.FindByKey.{FindsByKey, HasKeyAt, IsLeastPlace}
 use Rattle.dict_value.specs.declared.value.Value.{Value}
 use Rattle.hashed_layout.specs.KeyBytes.{BeginsWithKey, key_bytes}
-use Rattle.hashed_layout.specs.KeyTables.{IsKeyTableOf, key_held, key_home, number_at, number_in, start_of, tag_in, tag_of}
+use Rattle.hashed_layout.specs.KeyTables.{IsKeyTableOf, key_held, key_home, number_at, number_below_tag, entry_start, tag_in, tag_of}
 use Rattle.hashed_layout.specs.Probing.{IsMet}
 use Rattle.hashed_layout.specs.declared.complex.Entry.{Entry}
 use Rattle.hashed_layout.specs.steps.Filling.{Lands, Passes}
@@ -39,16 +39,16 @@ other-tag entries bytes key cell b untrue other = (λ t. absurd (cc (t, untrue))
 
 -- the entry that was read tells whether the key is told
 pub told-by : (entries : List Entry) (bytes : List ℕ) (key : List Value) (cell : ℕ) (entry : Entry) (b : Bool) → tag_in cell ≡ tag_of key
-    → slice_get entries (number_in cell - 1) ≡ Some entry → (IsTrue b ↔ BeginsWithKey (drop (start_of entry) bytes) key) → IsTrue b ↔ TellsKey entries bytes key cell
+    → slice_get entries (number_below_tag cell - 1) ≡ Some entry → (IsTrue b ↔ BeginsWithKey (drop (entry_start entry) bytes) key) → IsTrue b ↔ TellsKey entries bytes key cell
 told-by entries bytes key cell entry b tag here h = (
   λ t. (tag, entry, here, h.0 t),
-  λ tells. let same : tells.1 ≡ entry = cc (tells.2, here) in h.1 (subst (λ (e : Entry). BeginsWithKey (drop (start_of e) bytes) key) same tells.3),
+  λ tells. let same : tells.1 ≡ entry = cc (tells.2, here) in h.1 (subst (λ (e : Entry). BeginsWithKey (drop (entry_start e) bytes) key) same tells.3),
 )
 
 -- ---- what the cells hold
 
 module _ (distinct : List (List Value)) (bytes : List ℕ) (entries : List Entry) (cells : List ℕ) (same : length entries ≡ length distinct)
-    (stored : (n : ℕ) (key : List Value) (entry : Entry) → slice_get distinct n ≡ Some key → slice_get entries n ≡ Some entry → BeginsWithKey (drop (start_of entry) bytes) key)
+    (stored : (n : ℕ) (key : List Value) (entry : Entry) → slice_get distinct n ≡ Some key → slice_get entries n ≡ Some entry → BeginsWithKey (drop (entry_start entry) bytes) key)
     (numbered : (i : ℕ) → i < length cells → number_at cells i ≤ length distinct)
     (tagged : (i : ℕ) (key : List Value) → key_held distinct cells i ≡ Some key → tag_in (get_or cells i 0) ≡ tag_of key) where
   held-of : (i : ℕ) (n : ℕ) → number_at cells i ≡ n → n ≢ 0 → key_held distinct cells i ≡ slice_get distinct (n - 1)
@@ -77,7 +77,7 @@ module _ (distinct : List (List Value)) (bytes : List ℕ) (entries : List Entry
   tells-held i key within some tells =
       let h = held-some i within some in
       let entry : h.3.1 ≡ tells.1 = cc (h.3.2, tells.2) in
-      let is : h.0 ≡ key = begins-one (drop (start_of tells.1) bytes) h.0 key (subst (λ (e : Entry). BeginsWithKey (drop (start_of e) bytes) h.0) entry h.3.3) tells.3 in
+      let is : h.0 ≡ key = begins-one (drop (entry_start tells.1) bytes) h.0 key (subst (λ (e : Entry). BeginsWithKey (drop (entry_start e) bytes) h.0) entry h.3.3) tells.3 in
       (h.1 ∙ ap Some is, h.2 ∙ ap Some is)
 
   -- a cell that is skipped holds another key
@@ -108,7 +108,7 @@ module _ (distinct : List (List Value)) (bytes : List ℕ) (entries : List Entry
 -- ---- what is found
 
 module _ (keys : List (List Value)) (bytes : List ℕ) (entries : List Entry) (cells : List ℕ) (key : List Value) (t : IsKeyTableOf keys bytes entries cells) where
-  begins : (n : ℕ) (k : List Value) (entry : Entry) → slice_get t.distinct n ≡ Some k → slice_get entries n ≡ Some entry → BeginsWithKey (drop (start_of entry) bytes) k
+  begins : (n : ℕ) (k : List Value) (entry : Entry) → slice_get t.distinct n ≡ Some k → slice_get entries n ≡ Some entry → BeginsWithKey (drop (entry_start entry) bytes) k
   begins n k entry here at = (t.stored n k entry here at).0
 
   pub found-nowhere : StopsAt entries bytes cells key None → FindsByKey keys key None
@@ -144,14 +144,14 @@ full-keys entries bytes cells key home all =
     zeros-none cells (λ i less.
     let p = probed-by (length cells) (key_home (length cells) key) i home less in
     let some = subst (λ j. number_at cells j ≢ 0) p.2 ((all p.0 p.1).1) in
-    λ none. some (ap number_in none))
+    λ none. some (ap number_below_tag none))
 
 more : (keys : List (List Value)) (n : ℕ) (key : List Value) (place : ℕ) → IsLeastOf keys n key place → IsLeastOf keys (n + 1) key place
 more keys n key place h = let w = h.within in record { within = omega (arith, w); equal = h.equal; least = h.least }
 
 module _ (keys : List (List Value)) (bytes : List ℕ) (entries : List Entry) (cells : List ℕ) (row : ℕ) (key : List Value) (here : HasKeyAt keys key row)
     (t : IsKeyTableTo keys row bytes entries cells) (i : ℕ) (within : i < length cells) (s : Stops entries bytes cells key i) where
-  begins-at : (n : ℕ) (k : List Value) (entry : Entry) → slice_get t.distinct n ≡ Some k → slice_get entries n ≡ Some entry → BeginsWithKey (drop (start_of entry) bytes) k
+  begins-at : (n : ℕ) (k : List Value) (entry : Entry) → slice_get t.distinct n ≡ Some k → slice_get entries n ≡ Some entry → BeginsWithKey (drop (entry_start entry) bytes) k
   begins-at n k entry here at = (t.stored n k entry here at).0
 
   landed : Lands (length cells) (key_home (length cells) key) (key_held t.distinct cells) key i
@@ -183,8 +183,8 @@ module _ (keys : List (List Value)) (bytes : List ℕ) (entries : List Entry) (c
   }
 
   -- a row with a new key
-  module _ (free : number_at cells i ≡ 0) (entry : Entry) (start : start_of entry ≡ length bytes) (place : entry.place ≡ row) (cell : ℕ)
-      (number : number_in cell ≡ length entries + 1) (tag : tag_in cell ≡ tag_of key) where
+  module _ (free : number_at cells i ≡ 0) (entry : Entry) (start : entry_start entry ≡ length bytes) (place : entry.place ≡ row) (cell : ℕ)
+      (number : number_below_tag cell ≡ length entries + 1) (tag : tag_in cell ≡ tag_of key) where
     more-keys : List (List Value)
     more-keys = t.distinct ++ key ∷ []
 
@@ -205,7 +205,7 @@ module _ (keys : List (List Value)) (bytes : List ℕ) (entries : List Entry) (c
     held-new : key_held more-keys more-cells i ≡ Some key
     unfolding more-keys more-cells
     held-new =
-        let is : number_at (set cells i cell) i ≡ length entries + 1 = ap number_in cell-new ∙ number in
+        let is : number_at (set cells i cell) i ≡ length entries + 1 = ap number_below_tag cell-new ∙ number in
         let n : length entries + 1 - 1 ≡ length t.distinct = let e = t.same in omega (arith, e) in
         ap (λ m. cond (eqb m 0) None (slice_get (t.distinct ++ key ∷ []) (m - 1))) is
         ∙ ap (λ b. cond b None (slice_get (t.distinct ++ key ∷ []) (length entries + 1 - 1))) (ne_eqb (length entries + 1) 0 (λ e. omega (arith, e)))
@@ -214,7 +214,7 @@ module _ (keys : List (List Value)) (bytes : List ℕ) (entries : List Entry) (c
     held-old : (j : ℕ) → j ≢ i → key_held more-keys more-cells j ≡ key_held t.distinct cells j
     unfolding more-keys more-cells
     held-old j other =
-        let is : number_at (set cells i cell) j ≡ number_at cells j = ap number_in (cell-old j other) in
+        let is : number_at (set cells i cell) j ≡ number_at cells j = ap number_below_tag (cell-old j other) in
         ap (λ m. cond (eqb m 0) None (slice_get (t.distinct ++ key ∷ []) (m - 1))) is
         ∙ elim (cases_eq (number_at cells j) 0) [
           | inl none ↦
@@ -223,7 +223,7 @@ module _ (keys : List (List Value)) (bytes : List ℕ) (entries : List Entry) (c
           | inr some ↦
               let inside : j < length cells = elim (cases_lt j (length cells)) [
                 | inl less ↦ less
-                | inr past ↦ absurd (some (ap number_in (get_or_past cells j 0 past)))
+                | inr past ↦ absurd (some (ap number_below_tag (get_or_past cells j 0 past)))
               ] in
               let most = t.numbered j inside in
               ap (λ o. cond (eqb (number_at cells j) 0) None o) (get-append_left t.distinct (key ∷ []) (number_at cells j - 1) (omega (arith, most)))
@@ -239,14 +239,14 @@ module _ (keys : List (List Value)) (bytes : List ℕ) (entries : List Entry) (c
     ]
 
     stored-new : (n : ℕ) (k : List Value) (e : Entry) → slice_get (t.distinct ++ key ∷ []) n ≡ Some k → slice_get (entries ++ entry ∷ []) n ≡ Some e
-        → BeginsWithKey (drop (start_of e) (bytes ++ key_bytes key)) k × IsLeastOf keys (row + 1) k e.place
+        → BeginsWithKey (drop (entry_start e) (bytes ++ key_bytes key)) k × IsLeastOf keys (row + 1) k e.place
     stored-new n k e has at = elim (cases_lt n (length entries)) [
       | inl old ↦
           let same = t.same in
           let h = t.stored n k e (sym (get-append_left t.distinct (key ∷ []) n (omega (arith, same))) ∙ has) (sym (get-append_left entries (entry ∷ []) n old) ∙ at) in
-          let inside = begins-within bytes (start_of e) k h.0 in
-          let longer : drop (start_of e) (bytes ++ key_bytes key) ≡ key_bytes k ++ (h.0.0 ++ key_bytes key) =
-          drop-append-le (start_of e) bytes (key_bytes key) (omega (arith, inside)) ∙ ap (λ l. l ++ key_bytes key) h.0.1 ∙ append_assoc (key_bytes k) h.0.0 (key_bytes key) in
+          let inside = begins-within bytes (entry_start e) k h.0 in
+          let longer : drop (entry_start e) (bytes ++ key_bytes key) ≡ key_bytes k ++ (h.0.0 ++ key_bytes key) =
+          drop-append-le (entry_start e) bytes (key_bytes key) (omega (arith, inside)) ∙ ap (λ l. l ++ key_bytes key) h.0.1 ∙ append_assoc (key_bytes k) h.0.0 (key_bytes key) in
           ((h.0.0 ++ key_bytes key, longer), more keys row k e.place h.1)
       | inr last ↦ elim (cases_lt (length entries) n) [
         | inl past ↦ absurd (
@@ -260,15 +260,15 @@ module _ (keys : List (List Value)) (bytes : List ℕ) (entries : List Entry) (c
             let k-is : Some key ≡ Some k = sym (get-append_here t.distinct key) ∙ (ap (slice_get (t.distinct ++ key ∷ [])) m-is ∙ has) in
             let entry-is : entry ≡ e = cc (e-is) in
             let key-is : key ≡ k = cc (k-is) in
-            let begins : drop (start_of entry) (bytes ++ key_bytes key) ≡ key_bytes key ++ [] =
+            let begins : drop (entry_start entry) (bytes ++ key_bytes key) ≡ key_bytes key ++ [] =
             ap (λ m. drop m (bytes ++ key_bytes key)) start ∙ drop-append_seam bytes (key_bytes key) ∙ sym (append-nil (key_bytes key)) in
             let least : IsLeastOf keys (row + 1) key entry.place = record {
               within = omega (arith, place);
               equal = subst (λ p. HasKeyAt keys key p) (sym place) here;
               least = λ earlier less has. new-key earlier (omega (arith, place)) has;
             } in
-            subst (λ (x : Entry). BeginsWithKey (drop (start_of x) (bytes ++ key_bytes key)) k × IsLeastOf keys (row + 1) k x.place) entry-is
-            (subst (λ y. BeginsWithKey (drop (start_of entry) (bytes ++ key_bytes key)) y × IsLeastOf keys (row + 1) y entry.place) key-is (([], begins), least))
+            subst (λ (x : Entry). BeginsWithKey (drop (entry_start x) (bytes ++ key_bytes key)) k × IsLeastOf keys (row + 1) k x.place) entry-is
+            (subst (λ y. BeginsWithKey (drop (entry_start entry) (bytes ++ key_bytes key)) y × IsLeastOf keys (row + 1) y entry.place) key-is (([], begins), least))
       ]
     ]
 
@@ -286,10 +286,10 @@ module _ (keys : List (List Value)) (bytes : List ℕ) (entries : List Entry) (c
           stored = stored-new;
           numbered = λ j less. elim (cases_eq j i) [
             | inl e ↦
-                let at : number_at (set cells i cell) j ≡ length entries + 1 = ap (λ m. number_at (set cells i cell) m) e ∙ (ap number_in cell-new ∙ number) in
+                let at : number_at (set cells i cell) j ≡ length entries + 1 = ap (λ m. number_at (set cells i cell) m) e ∙ (ap number_below_tag cell-new ∙ number) in
                 omega (arith, at, long-keys, same)
             | inr other ↦
-                let is : number_at (set cells i cell) j ≡ number_at cells j = ap number_in (cell-old j other) in
+                let is : number_at (set cells i cell) j ≡ number_at cells j = ap number_below_tag (cell-old j other) in
                 let most = t.numbered j (omega (arith, size)) in
                 omega (arith, is, most, long-keys)
           ];

@@ -22,17 +22,17 @@ kind_of (Dec (pos n)) = 10
 kind_of (Dec (negsuc n)) = 11
 
 -- its number without a sign, or the length of its text
-abbrev pub number_of : Value → ℕ
-number_of Null = 0
-number_of (U n) = n
-number_of (I z) = unsigned_abs z
-number_of (S text) = length text
-number_of (Day n) = n
-number_of (Second n) = n
-number_of (Id n) = n
-number_of (V4 n) = n
-number_of (V6 n) = n
-number_of (Dec z) = unsigned_abs z
+abbrev pub magnitude_of : Value → ℕ
+magnitude_of Null = 0
+magnitude_of (U n) = n
+magnitude_of (I z) = unsigned_abs z
+magnitude_of (S text) = length text
+magnitude_of (Day n) = n
+magnitude_of (Second n) = n
+magnitude_of (Id n) = n
+magnitude_of (V4 n) = n
+magnitude_of (V6 n) = n
+magnitude_of (Dec z) = unsigned_abs z
 
 -- its text
 abbrev pub string_of : Value → List ℕ
@@ -50,7 +50,7 @@ digits_of n = digits_to n n
 
 -- what stands before the text
 abbrev pub head_bytes : Value → List ℕ
-head_bytes v = kind_of v ∷ length (digits_of (number_of v)) ∷ digits_of (number_of v)
+head_bytes v = kind_of v ∷ length (digits_of (magnitude_of v)) ∷ digits_of (magnitude_of v)
 
 abbrev pub value_bytes : Value → List ℕ
 value_bytes v = head_bytes v ++ string_of v

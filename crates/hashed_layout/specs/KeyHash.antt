@@ -8,8 +8,8 @@ use Rattle.hashed_layout.specs.Probing.{mixed}
 use Rattle.hashed_layout.specs.declared.key_bytes.TheConstants.{NULL_BITS, SEED}
 
 -- 64 bits of a number of 128
-abbrev pub folded : ℕ → ℕ
-folded n = bit_xor (n % 2 ^ 64) (mixed (n / 2 ^ 64))
+abbrev pub folded_bits : ℕ → ℕ
+folded_bits n = bit_xor (n % 2 ^ 64) (mixed (n / 2 ^ 64))
 
 -- 64 bits of a text
 abbrev pub text_bits : List ℕ → ℕ
@@ -23,10 +23,10 @@ bits_of (I z) = cast_unsigned w64 z
 bits_of (S text) = text_bits text
 bits_of (Day n) = n
 bits_of (Second n) = n
-bits_of (Id n) = folded n
+bits_of (Id n) = folded_bits n
 bits_of (V4 n) = n
-bits_of (V6 n) = folded n
-bits_of (Dec z) = folded (cast_unsigned w128 z)
+bits_of (V6 n) = folded_bits n
+bits_of (Dec z) = folded_bits (cast_unsigned w128 z)
 
 -- the state after the values
 abbrev pub hashed_on : ℕ → List Value → ℕ

@@ -13,12 +13,12 @@ unfoldable pub key_home : ℕ → List Value → ℕ
 key_home size key = part_of size (hash_of key / 2 ^ 32)
 
 -- where the bytes of an entry's key begin
-abbrev pub start_of : Entry → ℕ
-start_of entry = entry.high * 2 ^ 32 + entry.low
+abbrev pub entry_start : Entry → ℕ
+entry_start entry = entry.high * 2 ^ 32 + entry.low
 
 -- the number in a cell
-abbrev pub number_in : ℕ → ℕ
-number_in cell = cell % 2 ^ 23
+abbrev pub number_below_tag : ℕ → ℕ
+number_below_tag cell = cell % 2 ^ 23
 
 -- the tag above it
 abbrev pub tag_in : ℕ → ℕ
@@ -30,7 +30,7 @@ tag_of key = hash_of key % 2 ^ 32 / 2 ^ 23
 
 -- the number in the cell at a place of the table
 abbrev pub number_at : List ℕ → ℕ → ℕ
-number_at cells i = number_in (slice_index cells i)
+number_at cells i = number_below_tag (slice_index cells i)
 
 -- the key that a cell holds: 0 is free, and every other number one more than a key's
 abbrev pub key_held : List (List Value) → List ℕ → ℕ → Option (List Value)
@@ -44,7 +44,7 @@ pub record IsKeyTableOf (keys : List (List Value)) (bytes : List ℕ) (entries :
   pub count : length entries ≡ length distinct
   pub stored : (n : ℕ) (key : List Value) (entry : Entry) → slice_get distinct n ≡ Some key
       → slice_get entries n ≡ Some entry
-      → BeginsWithKey (drop (start_of entry) bytes) key × IsLeastPlace keys key entry.place
+      → BeginsWithKey (drop (entry_start entry) bytes) key × IsLeastPlace keys key entry.place
   pub numbered : (i : ℕ) → i < length cells → number_at cells i ≤ length distinct
   pub tagged : (i : ℕ) (key : List Value) → key_held distinct cells i ≡ Some key
       → tag_in (slice_index cells i) ≡ tag_of key

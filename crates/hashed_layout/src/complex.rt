@@ -5,7 +5,7 @@ ghost use Rattle.dict_value.specs.FindByKey.{FindsByKey, HasKeyAt};
 ghost use Rattle.dict_value.specs.declared.value.TheConstants.{MOST_ROWS};
 ghost use Rattle.dict_value.specs.declared.value.Value.{Value};
 ghost use Rattle.hashed_layout.specs.KeyHash.{hash_of};
-ghost use Rattle.hashed_layout.specs.KeyTables.{IsKeyTableOf, key_home, number_in, start_of, tag_in, tag_of};
+ghost use Rattle.hashed_layout.specs.KeyTables.{IsKeyTableOf, key_home, number_below_tag, entry_start, tag_in, tag_of};
 ghost use Rattle.hashed_layout.specs.steps.KeyFilling.{IsKeyTableTo, StopsAt, TellsKey};
 
 use crate::key_bytes::{begins_with_key, hash_of, push_key, room_for};
@@ -35,7 +35,7 @@ pub struct Complex {
 /// Where the bytes of an entry's key begin.
 #[inline(always)]
 fn start_of(entry: &Entry) -> u64
-    ensures { result ≡ start_of entry.now }
+    ensures { result ≡ entry_start entry.now }
 {
     (u64::from(entry.high) << 32) + u64::from(entry.low)
 }
@@ -43,7 +43,7 @@ fn start_of(entry: &Entry) -> u64
 /// The number of the key that a cell holds, or 0 where the cell is free.
 #[inline(always)]
 fn number_in(cell: u32) -> u32
-    ensures { result ≡ number_in cell }
+    ensures { result ≡ number_below_tag cell }
 {
     cell % (1 << 23)
 }
@@ -68,7 +68,7 @@ fn tag_of(bits: u64) -> u32
 fn cell_of(tag: u32, number: u32) -> u32
     requires tag { tag < 2 ^ 9 }
     requires number { number < 2 ^ 23 }
-    ensures number { number_in result ≡ number }
+    ensures number { number_below_tag result ≡ number }
     ensures tag { tag_in result ≡ tag }
 {
     tag * (1 << 23) + number
@@ -88,7 +88,7 @@ fn key_home(size: usize, bits: u64) -> usize
 #[inline(always)]
 fn tells_key(entries: &[Entry], bytes: &[u8], key: &KeyList, tag: u32, cell: u32) -> bool
     requires tag { tag ≡ tag_of key.now }
-    requires taken { 0 < number_in cell }
+    requires taken { 0 < number_below_tag cell }
     ensures { IsTrue result ↔ TellsKey entries.now bytes.now key.now cell }
 {
     if tag_in(cell) != tag {

@@ -2,8 +2,8 @@
 ghost use Rattle.std.specs.Prelude.{◌≡◌, ◌≢◌, ◌≤◌, ◌↔◌, ◌∷◌, ◌++◌, ℕ, List, drop, length, take};
 ghost use Rattle.std.specs.Prelude.{IsTrue, MatchOption, OnOk};
 ghost use Rattle.hashed_layout.specs.KeyBytes.{BeginsWithKey, digits_of, digits_to, head_bytes, key_bytes, kind_of};
-ghost use Rattle.hashed_layout.specs.KeyBytes.{number_of, string_of, value_bytes};
-ghost use Rattle.hashed_layout.specs.KeyHash.{bits_of, folded, hash_of, text_bits};
+ghost use Rattle.hashed_layout.specs.KeyBytes.{magnitude_of, string_of, value_bytes};
+ghost use Rattle.hashed_layout.specs.KeyHash.{bits_of, folded_bits, hash_of, text_bits};
 
 use crate::probing::mixed;
 use dict_value::{Bytes, KeyList, NoMemory, Value};
@@ -52,7 +52,7 @@ fn head_from(kind: u8, number: u128) -> Head
 /// The kind and the number of a value.
 fn kind_and_number(value: &Value) -> (u8, u128)
     ensures kind { result.0 ≡ kind_of value.now }
-    ensures number { result.1 ≡ number_of value.now }
+    ensures number { result.1 ≡ magnitude_of value.now }
 {
     match value {
         Value::Null => (0, 0),
@@ -181,7 +181,7 @@ pub(crate) fn push_key(out: &mut Bytes, key: &KeyList) -> Result<(), NoMemory>
 
 /// 64 bits of a number of 128.
 fn folded(number: u128) -> u64
-    ensures { result ≡ folded number }
+    ensures { result ≡ folded_bits number }
 {
     (number % (1 << 64)) as u64 ^ mixed((number >> 64) as u64)
 }

@@ -1,6 +1,6 @@
 -- The members above another.
 use Rattle.std.proofs.Common.{◌≡◌, ℕ, zero, suc, ◌+◌, ◌-◌, ◌<◌, List, length, get_or, refl, ap, arith, sym, ◌∙◌, subst}
-use Rattle.hier.specs.Members.{IsSound, above}
+use Rattle.hier.specs.Members.{AreSoundMembers, above}
 use Rattle.hier.proofs.Lists.{number-read}
 
 pub above-none : (ups : List ℕ) (member : ℕ) → above ups 0 member ≡ member
@@ -35,7 +35,7 @@ above-front ups member j =
     (above-add ups member 1 j ∙ ap (λ m. above ups j m) one)
 
 -- the members of a chain are members
-pub sound-within : (members ups lengths firsts nexts : List ℕ) → IsSound members ups lengths firsts nexts → (start i : ℕ) → start < length members → i < get_or lengths start 0 → above ups i start < length members
+pub sound-within : (members ups lengths firsts nexts : List ℕ) → AreSoundMembers members ups lengths firsts nexts → (start i : ℕ) → start < length members → i < get_or lengths start 0 → above ups i start < length members
 sound-within members ups lengths firsts nexts s start zero l h = subst (λ m. m < length members) (sym (above-none ups start)) l
 sound-within members ups lengths firsts nexts s start (suc i) l h =
     let m = above-suc ups i start in
@@ -48,7 +48,7 @@ pub above-next : (ups : List ℕ) (start at place : ℕ) → at ≡ above ups pl
 above-next ups start at place is = ap (λ m. get_or ups m 0 - 1) is ∙ sym (above-more ups place start)
 
 -- a member of a chain, by the length that was read
-pub walk-within : (members ups lengths firsts nexts : List ℕ) → IsSound members ups lengths firsts nexts → (start at place long : ℕ) → start < length members
+pub walk-within : (members ups lengths firsts nexts : List ℕ) → AreSoundMembers members ups lengths firsts nexts → (start at place long : ℕ) → start < length members
     → long ≡ get_or lengths start long → place < long → at ≡ above ups place start → at < length members
 walk-within members ups lengths firsts nexts s start at place long inside read l is =
     let len = number-read lengths start long (let n = s.lengths_len in omega (arith, n, inside)) read in
@@ -56,7 +56,7 @@ walk-within members ups lengths firsts nexts s start at place long inside read l
     omega (arith, is, within)
 
 -- the next member, by the cell that was read
-pub walk-next : (members ups lengths firsts nexts : List ℕ) → IsSound members ups lengths firsts nexts → (start at place cell : ℕ) → at < length members
+pub walk-next : (members ups lengths firsts nexts : List ℕ) → AreSoundMembers members ups lengths firsts nexts → (start at place cell : ℕ) → at < length members
     → cell ≡ get_or ups at cell → at ≡ above ups place start → cell - 1 ≡ above ups (place + 1) start
 walk-next members ups lengths firsts nexts s start at place cell within read is =
     let u = number-read ups at cell (let n = s.ups_len in omega (arith, n, within)) read in

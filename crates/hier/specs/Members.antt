@@ -25,7 +25,7 @@ pub record TellsNext (ups : List ℕ) (start up cell : ℕ) : Type 0 where
 
 -- Each list has a cell for each member; a parent is a member; a chain goes on to its end; and the members below one
 -- are told, rising.
-pub record IsSound (members ups lengths firsts nexts : List ℕ) : Type 0 where
+pub record AreSoundMembers (members ups lengths firsts nexts : List ℕ) : Type 0 where
   pub small : length members < 2 ^ 24
   pub ups_len : length ups ≡ length members
   pub lengths_len : length lengths ≡ length members

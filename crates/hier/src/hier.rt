@@ -1,9 +1,10 @@
 // The hierarchy of a row list, and what is asked of it.
-ghost use Rattle.std.specs.Prelude.{◌≡◌, ◌≢◌, ◌↔◌, [], ◌∷◌, ◌++◌, ◌^◌, ◌<◌, ◌≤◌, ℕ, List, All, IfOk, IsTrue, OnOk, length, map};
+ghost use Rattle.std.specs.Prelude.{◌≡◌, ◌≢◌, ◌↔◌, [], ◌∷◌, ◌++◌, ◌^◌, ◌<◌, ◌≤◌, ℕ, List, All, IfOk, IsTrue, OnOk};
+ghost use Rattle.std.specs.Prelude.{length, map};
 ghost use Rattle.std.specs.Prelude.{slice_index};
 ghost use Rattle.dict_value.specs.declared.value.TheConstants.{MOST_ROWS};
 ghost use Rattle.hier.specs.Hierarchy.{IsChain, IsDescendant, IsIn, IsRisingListOf};
-ghost use Rattle.hier.specs.Members.{IsFoundAt, IsSound};
+ghost use Rattle.hier.specs.Members.{IsFoundAt, AreSoundMembers};
 ghost use Rattle.hier.specs.steps.Finding.{AddsBelow, AddsLevel, IsSearched, StandsFrom};
 
 use crate::below::below_of;
@@ -30,7 +31,7 @@ pub struct Hier {
     lengths: Vec<u32>,
     firsts: Vec<u32>,
     nexts: Vec<u32>,
-    ghost sound: { IsSound members.items ups.items lengths.items firsts.items nexts.items },
+    ghost sound: { AreSoundMembers members.items ups.items lengths.items firsts.items nexts.items },
 }
 
 impl Hier {

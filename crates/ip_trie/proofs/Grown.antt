@@ -2,21 +2,21 @@
 use Rattle.std.proofs.Common.{◌≡◌, ◌≢◌, ◌⊎◌, Bool, ℕ, zero, suc, ◌+◌, ◌-◌, ◌*◌, ◌%◌, ◌^◌, ◌<◌, ◌≤◌, List, ◌++◌, length, get_or, set, replicate, inl, inr, refl, arith, sym, ◌∙◌, ap, subst, get_or-set_same, get_or-set_other, length-set, length-append}
 use Rattle.std.proofs.lemmas.Bool.{cases_eq, cases_lt}
 use Rattle.std.proofs.lemmas.List.{get_or-append_right, get_or_append_left, get_or_past, length-replicate}
-use Rattle.ip_trie.specs.Cells.{AreLeaves, EndsAt, IsIn, IsTrie, TellsBest, below, blank, digit, leaf_at, level_of, next_at, node, row_at, top}
+use Rattle.ip_trie.specs.Cells.{AreLeaves, EndsAtLevel, IsOfFamily, IsTrie, TellsBest, cells_below, blank, digit, leaf_at, level_of, next_at, node, cell_row, top}
 use Rattle.ip_trie.specs.declared.cells.Cell.{Cell}
 use Rattle.ip_trie.specs.declared.cells.Leaf.{Leaf}
 use Rattle.ip_trie.specs.declared.cells.TheConstants.{TABLE}
-use Rattle.ip_trie.specs.steps.Growing.{Grows, IsGrown}
+use Rattle.ip_trie.specs.steps.Growing.{GrowsCells, IsGrown}
 use Rattle.ip_trie.proofs.Bits.{digit-small, level-below, level-within, level-least, same-more, same-top}
 use Rattle.ip_trie.proofs.Nodes.{below-none, below-some, next-past, node-agree, node-next, node-none, node-sound, node-suc, row-past}
 
--- ---- sixteen cells more, below one
+-- ---- sixteen cells more, cells_below one
 
 pub record IsOneMore (old : List Cell) (at : ℕ) (new : List Cell) : Type 0 where
   pub len : length new ≡ length old + 16
   pub here : next_at new at ≡ length old
   pub others : (i : ℕ) → i ≢ at → next_at new i ≡ next_at old i
-  pub rows : (i : ℕ) → row_at new i ≡ row_at old i
+  pub rows : (i : ℕ) → cell_row new i ≡ cell_row old i
 
 blanks : (n i : ℕ) → get_or (replicate n blank) i blank ≡ blank
 blanks zero i = refl
@@ -42,7 +42,7 @@ one-more old at l =
       here = ap (λ (c : Cell). c.next) same;
       others = λ i ne. ap (λ (c : Cell). c.next) (other i ne);
       rows = λ i. elim (cases_eq i at) [
-        | inl e ↦ subst (λ k. row_at (set all at cell) k ≡ row_at old k) (sym e) (ap (λ (c : Cell). c.row) same)
+        | inl e ↦ subst (λ k. cell_row (set all at cell) k ≡ cell_row old k) (sym e) (ap (λ (c : Cell). c.row) same)
         | inr ne ↦ ap (λ (c : Cell). c.row) (other i ne)
       ];
     }
@@ -65,7 +65,7 @@ module _ (leaves : List Leaf) (v6 : Bool) (n : ℕ) (sound : AreLeaves leaves) (
       let p = t.apart a b level other la lb ll lo sa q.0 in
       (q.0, (p.0, p.1, q.1))
 
-  module _ (row level : ℕ) (of : IsIn leaves v6 row) (short : level < level_of (leaf_at leaves row).len)
+  module _ (row level : ℕ) (of : IsOfFamily leaves v6 row) (short : level < level_of (leaf_at leaves row).len)
       (some : node old (leaf_at leaves row).bits level ≢ 0)
       (free : next_at old (node old (leaf_at leaves row).bits level + digit level (leaf_at leaves row).bits) ≡ 0)
       (more : IsOneMore old (node old (leaf_at leaves row).bits level + digit level (leaf_at leaves row).bits) new) where
@@ -91,7 +91,7 @@ module _ (leaves : List Leaf) (v6 : Bool) (n : ℕ) (sound : AreLeaves leaves) (
       | inr made ↦
           let d = digit-small m bits in
           let here : node new bits (suc m) ≡ 0 =
-          node-suc new bits m ∙ (ap (λ k. below new k (digit m bits)) made.2
+          node-suc new bits m ∙ (ap (λ k. cells_below new k (digit m bits)) made.2
           ∙ (below-some new (length old) (digit m bits) (let s = t.size in λ z. omega (arith, s, z))
           ∙ (more.others (length old + digit m bits) (let w = at-within in λ z. omega (arith, w, z)) ∙ next-past old (length old + digit m bits) (omega arith)))) in
           let there : node old bits (suc m) ≡ 0 = node-suc old bits m ∙ below-none old (node old bits m) (digit m bits) made.3 in
@@ -103,7 +103,7 @@ module _ (leaves : List Leaf) (v6 : Bool) (n : ℕ) (sound : AreLeaves leaves) (
                 inl (node-suc new bits m ∙ (below-none new (node new bits m) (digit m bits) (same ∙ none) ∙ sym (node-suc old bits m ∙ below-none old (node old bits m) (digit m bits) none)))
             | inr there ↦
                 let into : node new bits (suc m) ≡ next_at new (node old bits m + digit m bits) =
-                node-suc new bits m ∙ (ap (λ k. below new k (digit m bits)) same ∙ below-some new (node old bits m) (digit m bits) there) in
+                node-suc new bits m ∙ (ap (λ k. cells_below new k (digit m bits)) same ∙ below-some new (node old bits m) (digit m bits) there) in
                 let from : node old bits (suc m) ≡ next_at old (node old bits m + digit m bits) = node-suc old bits m ∙ below-some old (node old bits m) (digit m bits) there in
                 elim (cases_eq (node old bits m + digit m bits) at) [
                   | inr ne ↦ inl (into ∙ (more.others (node old bits m + digit m bits) ne ∙ sym from))
@@ -196,11 +196,11 @@ module _ (leaves : List Leaf) (v6 : Bool) (n : ℕ) (sound : AreLeaves leaves) (
       ];
       told = λ bits l lb ll there. elim (ways bits l lb (omega (arith, ll))) [
         | inl same ↦
-            let r : row_at new (node new bits l + digit l bits) ≡ row_at old (node old bits l + digit l bits) =
-            more.rows (node new bits l + digit l bits) ∙ ap (λ k. row_at old (k + digit l bits)) same in
-            subst (TellsBest leaves (EndsAt leaves v6 n l bits)) (sym r) (t.told bits l lb ll (λ z. there (same ∙ z)))
+            let r : cell_row new (node new bits l + digit l bits) ≡ cell_row old (node old bits l + digit l bits) =
+            more.rows (node new bits l + digit l bits) ∙ ap (λ k. cell_row old (k + digit l bits)) same in
+            subst (TellsBest leaves (EndsAtLevel leaves v6 n l bits)) (sym r) (t.told bits l lb ll (λ z. there (same ∙ z)))
         | inr made ↦
-            let z : row_at new (node new bits l + digit l bits) ≡ 0 =
+            let z : cell_row new (node new bits l + digit l bits) ≡ 0 =
             more.rows (node new bits l + digit l bits) ∙ row-past old (node new bits l + digit l bits) (let q = made.2 in omega (arith, q)) in
             inl (
               z,
@@ -241,8 +241,8 @@ way-start leaves v6 row cells t = record {
       omega (arith, n, q);
 }
 
-pub way-more : (leaves : List Leaf) (v6 : Bool) (row level start next : ℕ) (old new : List Cell) → AreLeaves leaves → IsIn leaves v6 row → level < level_of (leaf_at leaves row).len
-    → IsGrown leaves v6 row level start old → Grows old (start + digit level (leaf_at leaves row).bits) new next → IsGrown leaves v6 row (level + 1) next new
+pub way-more : (leaves : List Leaf) (v6 : Bool) (row level start next : ℕ) (old new : List Cell) → AreLeaves leaves → IsOfFamily leaves v6 row → level < level_of (leaf_at leaves row).len
+    → IsGrown leaves v6 row level start old → GrowsCells old (start + digit level (leaf_at leaves row).bits) new next → IsGrown leaves v6 row (level + 1) next new
 way-more leaves v6 row level start next old new sound of short g (inl (some, same, is)) =
     let x = (leaf_at leaves row).bits in
     let there : node old x level ≢ 0 = λ z. g.some (g.here ∙ z) in

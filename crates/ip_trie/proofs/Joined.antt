@@ -1,7 +1,7 @@
 -- What is said of the cells after one row more.
 use Rattle.std.proofs.Common.{◌≡◌, ◌≢◌, Bool, ℕ, ◌+◌, ◌<◌, ◌≤◌, List, length, inl, inr, arith, sym, ◌∙◌, subst}
 use Rattle.std.proofs.lemmas.Bool.{cases_eq}
-use Rattle.ip_trie.specs.Cells.{IsIn, digit, leaf_at, level_of, node, top}
+use Rattle.ip_trie.specs.Cells.{IsOfFamily, digit, leaf_at, level_of, node, top}
 use Rattle.ip_trie.specs.Below.{AllowsFor, AreBelow, Joins, LiesBelow, one_below}
 use Rattle.ip_trie.specs.declared.cells.Cell.{Cell}
 use Rattle.ip_trie.specs.declared.cells.Leaf.{Leaf}
@@ -39,7 +39,7 @@ module _ (leaves : List Leaf) (v6 : Bool) (cells : List Cell) (row : ℕ) where
   ]
 
   -- the cell of the table
-  pub bucket-joined : (at : ℕ) (old new : List ℕ) → Joins at row old new → at ≡ top 16 (leaf_at leaves row).bits → IsIn leaves v6 row → 4 ≤ level_of (leaf_at leaves row).len
+  pub bucket-joined : (at : ℕ) (old new : List ℕ) → Joins at row old new → at ≡ top 16 (leaf_at leaves row).bits → IsOfFamily leaves v6 row → 4 ≤ level_of (leaf_at leaves row).len
       → AreBelow leaves v6 cells row old → AreJoined leaves v6 cells row 4 new
   bucket-joined at old new j is inside deep b = record {
     len = j.len ∙ b.len;
@@ -50,7 +50,7 @@ module _ (leaves : List Leaf) (v6 : Bool) (cells : List Cell) (row : ℕ) where
   }
 
   -- a cell of a level
-  pub level-joined : (level at : ℕ) (old new : List ℕ) → Joins at row old new → at ≡ node cells (leaf_at leaves row).bits level + digit level (leaf_at leaves row).bits → IsIn leaves v6 row
+  pub level-joined : (level at : ℕ) (old new : List ℕ) → Joins at row old new → at ≡ node cells (leaf_at leaves row).bits level + digit level (leaf_at leaves row).bits → IsOfFamily leaves v6 row
       → 4 ≤ level → level < level_of (leaf_at leaves row).len → AreJoined leaves v6 cells row level old → AreJoined leaves v6 cells row (level + 1) new
   level-joined level at old new j is inside low short b = record {
     len = j.len ∙ b.len;

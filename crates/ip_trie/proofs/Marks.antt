@@ -1,7 +1,7 @@
 -- A trie with a row more.
 use Rattle.std.proofs.Common.{◌≡◌, ◌≢◌, ◌⊎◌, Bool, ℕ, ◌+◌, ◌-◌, ◌*◌, ◌^◌, ◌<◌, ◌≤◌, List, inl, inr, arith, sym, ◌∙◌, ap, subst}
 use Rattle.std.proofs.lemmas.Bool.{cases_eq, cases_lt}
-use Rattle.ip_trie.specs.Cells.{AreLeaves, EndsAt, IsIn, IsTrie, TellsBest, digit, leaf_at, level_of, node, row_at, top}
+use Rattle.ip_trie.specs.Cells.{AreLeaves, EndsAtLevel, IsOfFamily, IsTrie, TellsBest, digit, leaf_at, level_of, node, cell_row, top}
 use Rattle.ip_trie.specs.declared.cells.Cell.{Cell}
 use Rattle.ip_trie.specs.declared.cells.Leaf.{Leaf}
 use Rattle.ip_trie.specs.steps.Growing.{AreBettered, IsGrown}
@@ -10,7 +10,7 @@ use Rattle.ip_trie.proofs.Nodes.{node-agree, node-same, node-sound}
 use Rattle.ip_trie.proofs.Tells.{tells-bettered, tells-same}
 
 -- a row of the other family
-pub other-family : (leaves : List Leaf) (v6 : Bool) (n : ℕ) (cells : List Cell) → ¬ (IsIn leaves v6 n) → IsTrie leaves v6 n cells → IsTrie leaves v6 (n + 1) cells
+pub other-family : (leaves : List Leaf) (v6 : Bool) (n : ℕ) (cells : List Cell) → ¬ (IsOfFamily leaves v6 n) → IsTrie leaves v6 n cells → IsTrie leaves v6 (n + 1) cells
 other-family leaves v6 n cells other t = record {
   size = t.size;
   whole = t.whole;
@@ -18,14 +18,14 @@ other-family leaves v6 n cells other t = record {
   rows = λ i. let r = t.rows i in omega (arith, r);
   apart = t.apart;
   paths = λ row level l inside le. elim (cases_eq row n) [
-    | inl same ↦ absurd (other (subst (IsIn leaves v6) same inside))
+    | inl same ↦ absurd (other (subst (IsOfFamily leaves v6) same inside))
     | inr ne ↦ t.paths row level (omega (arith, l, ne)) inside le
   ];
   used = t.used;
   told = λ bits level lb ll there. tells-same leaves v6 n level bits _ (t.told bits level lb ll there) (λ e. other e.1.0);
 }
 
-module _ (leaves : List Leaf) (v6 : Bool) (n level start : ℕ) (sound : AreLeaves leaves) (old new : List Cell) (of : IsIn leaves v6 n)
+module _ (leaves : List Leaf) (v6 : Bool) (n level start : ℕ) (sound : AreLeaves leaves) (old new : List Cell) (of : IsOfFamily leaves v6 n)
     (lv : level ≡ level_of (leaf_at leaves n).len) (g : IsGrown leaves v6 n level start old)
     (b : AreBettered leaves n (start + digit level (leaf_at leaves n).bits) (start + digit level (leaf_at leaves n).bits + 2 ^ (4 * level + 4 - (leaf_at leaves n).len)) old new) where
   abbrev x : ℕ
@@ -51,7 +51,7 @@ module _ (leaves : List Leaf) (v6 : Bool) (n level start : ℕ) (sound : AreLeav
 
   -- a cell on a way is bettered where the row ends at it
   covered : (bits m : ℕ) → bits < 2 ^ 128 → m < 32 → node old bits m ≢ 0 → start + digit level x ≤ node old bits m + digit m bits → node old bits m + digit m bits < start + digit level x + width
-      → EndsAt leaves v6 (n + 1) m bits n
+      → EndsAtLevel leaves v6 (n + 1) m bits n
   covered bits m lb lm some from to =
       let s = node-sound old t.size t.nexts bits m some in
       let r = node-sound old t.size t.nexts x level there in
@@ -69,7 +69,7 @@ module _ (leaves : List Leaf) (v6 : Bool) (n level start : ℕ) (sound : AreLeav
       (omega arith, (of, q), sym lv ∙ sym e)
 
   -- and nowhere else
-  uncovered : (bits m : ℕ) → bits < 2 ^ 128 → m < 32 → (node old bits m + digit m bits < start + digit level x) ⊎ (start + digit level x + width ≤ node old bits m + digit m bits) → ¬ (EndsAt leaves v6 (n + 1) m bits n)
+  uncovered : (bits m : ℕ) → bits < 2 ^ 128 → m < 32 → (node old bits m + digit m bits < start + digit level x) ⊎ (start + digit level x + width ≤ node old bits m + digit m bits) → ¬ (EndsAtLevel leaves v6 (n + 1) m bits n)
   uncovered bits m lb lm out (less, has, ends) =
       let e : m ≡ level = sym ends ∙ sym lv in
       let q = covered-to (leaf_at leaves n).len level x bits ll lv (sound.len n) (sound.cleared n) has.1 in
@@ -118,14 +118,14 @@ module _ (leaves : List Leaf) (v6 : Bool) (n level start : ℕ) (sound : AreLeav
     told = λ bits m lb lm some.
         let old_some : node old bits m ≢ 0 = λ z. some (same bits m ∙ z) in
         let was = t.told bits m lb lm old_some in
-        subst (λ k. TellsBest leaves (EndsAt leaves v6 (n + 1) m bits) (row_at new (k + digit m bits))) (sym (same bits m))
+        subst (λ k. TellsBest leaves (EndsAtLevel leaves v6 (n + 1) m bits) (cell_row new (k + digit m bits))) (sym (same bits m))
         (elim (cases_lt (node old bits m + digit m bits) (start + digit level x)) [
           | inl before ↦
-              subst (TellsBest leaves (EndsAt leaves v6 (n + 1) m bits)) (sym (b.outside _ (inl before)))
+              subst (TellsBest leaves (EndsAtLevel leaves v6 (n + 1) m bits)) (sym (b.outside _ (inl before)))
               (tells-same leaves v6 n m bits _ was (uncovered bits m lb lm (inl before)))
           | inr from ↦ elim (cases_lt (node old bits m + digit m bits) (start + digit level x + width)) [
             | inr behind ↦
-                subst (TellsBest leaves (EndsAt leaves v6 (n + 1) m bits)) (sym (b.outside _ (inr behind)))
+                subst (TellsBest leaves (EndsAtLevel leaves v6 (n + 1) m bits)) (sym (b.outside _ (inr behind)))
                 (tells-same leaves v6 n m bits _ was (uncovered bits m lb lm (inr behind)))
             | inl inside ↦
                 tells-bettered leaves v6 n m bits _ _ was (covered bits m lb lm old_some from inside) (b.inside _ from inside)

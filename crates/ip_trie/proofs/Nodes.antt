@@ -2,7 +2,7 @@
 use Rattle.std.proofs.Common.{◌≡◌, ◌≢◌, ℕ, zero, suc, ◌+◌, ◌*◌, ◌%◌, ◌≤◌, List, length, cond, eqb, inl, inr, refl, arith, sym, ◌∙◌, ap, subst, ne_eqb}
 use Rattle.std.proofs.lemmas.Bool.{cases_eq}
 use Rattle.std.proofs.lemmas.List.{get_or_past}
-use Rattle.ip_trie.specs.Cells.{below, blank, digit, next_at, node, row_at, top}
+use Rattle.ip_trie.specs.Cells.{cells_below, blank, digit, next_at, node, cell_row, top}
 use Rattle.ip_trie.specs.declared.cells.Cell.{Cell}
 use Rattle.ip_trie.specs.declared.cells.TheConstants.{TABLE}
 use Rattle.ip_trie.proofs.Bits.{same-digit, same-top}
@@ -11,19 +11,19 @@ pub node-none : (cells : List Cell) (bits : ℕ) → node cells bits 0 ≡ TABLE
 unfolding node
 node-none cells bits = refl
 
-pub node-suc : (cells : List Cell) (bits level : ℕ) → node cells bits (suc level) ≡ below cells (node cells bits level) (digit level bits)
+pub node-suc : (cells : List Cell) (bits level : ℕ) → node cells bits (suc level) ≡ cells_below cells (node cells bits level) (digit level bits)
 unfolding node
 node-suc cells bits level = refl
 
-pub node-more : (cells : List Cell) (bits level : ℕ) → node cells bits (level + 1) ≡ below cells (node cells bits level) (digit level bits)
+pub node-more : (cells : List Cell) (bits level : ℕ) → node cells bits (level + 1) ≡ cells_below cells (node cells bits level) (digit level bits)
 node-more cells bits level =
     let e : suc level ≡ level + 1 = omega arith in
-    subst (λ k. node cells bits k ≡ below cells (node cells bits level) (digit level bits)) e (node-suc cells bits level)
+    subst (λ k. node cells bits k ≡ cells_below cells (node cells bits level) (digit level bits)) e (node-suc cells bits level)
 
-pub below-some : (cells : List Cell) (start d : ℕ) → start ≢ 0 → below cells start d ≡ next_at cells (start + d)
+pub below-some : (cells : List Cell) (start d : ℕ) → start ≢ 0 → cells_below cells start d ≡ next_at cells (start + d)
 below-some cells start d some = ap (λ b. cond b 0 (next_at cells (start + d))) (ne_eqb start 0 some)
 
-pub below-none : (cells : List Cell) (start d : ℕ) → start ≡ 0 → below cells start d ≡ 0
+pub below-none : (cells : List Cell) (start d : ℕ) → start ≡ 0 → cells_below cells start d ≡ 0
 below-none cells start d none = ap (λ k. cond (eqb k 0) 0 (next_at cells (k + d))) none
 
 pub node-next : (cells : List Cell) (bits level : ℕ) → node cells bits level ≢ 0 → node cells bits (level + 1) ≡ next_at cells (node cells bits level + digit level bits)
@@ -37,7 +37,7 @@ node-agree cells a b (suc level) l s =
     let s4 = subst (λ k. top k a ≡ top k b) e s in
     let before = node-agree cells a b level (omega arith) (same-top (4 * level) (4 * (level + 1)) a b (omega arith) (omega arith) s4) in
     let d = same-digit level a b (omega arith) s4 in
-    node-suc cells a level ∙ (ap (λ k. below cells k (digit level a)) before ∙ (ap (λ k. below cells (node cells b level) k) d ∙ sym (node-suc cells b level)))
+    node-suc cells a level ∙ (ap (λ k. cells_below cells k (digit level a)) before ∙ (ap (λ k. cells_below cells (node cells b level) k) d ∙ sym (node-suc cells b level)))
 
 -- a way that ended stays so
 pub node-past : (cells : List Cell) (bits level more : ℕ) → node cells bits level ≡ 0 → node cells bits (level + more) ≡ 0
@@ -54,8 +54,8 @@ pub node-same : (old new : List Cell) (bits level : ℕ) → ((i : ℕ) → TABL
 node-same old new bits zero same far = node-none new bits ∙ sym (node-none old bits)
 node-same old new bits (suc level) same far =
     let before = node-same old new bits level same far in
-    let step : below new (node new bits level) (digit level bits) ≡ below old (node old bits level) (digit level bits) =
-    ap (λ k. below new k (digit level bits)) before ∙ (elim (cases_eq (node old bits level) 0) [
+    let step : cells_below new (node new bits level) (digit level bits) ≡ cells_below old (node old bits level) (digit level bits) =
+    ap (λ k. cells_below new k (digit level bits)) before ∙ (elim (cases_eq (node old bits level) 0) [
       | inl none ↦ below-none new (node old bits level) (digit level bits) none ∙ sym (below-none old (node old bits level) (digit level bits) none)
       | inr some ↦
           let f = far level some in
@@ -81,5 +81,5 @@ node-sound cells size nexts bits (suc level) some =
 pub next-past : (cells : List Cell) (i : ℕ) → length cells ≤ i → next_at cells i ≡ 0
 next-past cells i l = ap (λ (c : Cell). c.next) (get_or_past cells i blank l)
 
-pub row-past : (cells : List Cell) (i : ℕ) → length cells ≤ i → row_at cells i ≡ 0
+pub row-past : (cells : List Cell) (i : ℕ) → length cells ≤ i → cell_row cells i ≡ 0
 row-past cells i l = ap (λ (c : Cell). c.row) (get_or_past cells i blank l)

@@ -2,9 +2,9 @@
 use Rattle.std.proofs.Common.{◌≡◌, ◌≢◌, ◌⊎◌, Bool, ℕ, ◌+◌, ◌-◌, ◌*◌, ◌%◌, ◌^◌, ◌<◌, ◌≤◌, List, [], length, inl, inr, refl, arith, sym, ◌∙◌, ap, subst}
 use Rattle.std.proofs.lemmas.Bool.{cases_eq, cases_lt}
 use Rattle.dict_value.specs.declared.value.TheConstants.{MOST_ROWS}
-use Rattle.ip_trie.specs.Cells.{AreLeaves, EndsAbove, Has, IsIn, IsTrie, TellsBest, digit, leaf_at, level_of, next_at, node, top}
+use Rattle.ip_trie.specs.Cells.{AreLeaves, EndsAbove, HasBits, IsOfFamily, IsTrie, TellsBest, digit, leaf_at, level_of, next_at, node, top}
 use Rattle.ip_trie.specs.Below.{AreBelow, AreCut, IsLastOf, IsPruned, IsPrunedNext, IsSafe, PassesBucket, PassesCell, next_of_row, one_below}
-use Rattle.ip_trie.specs.Kept.{AreCellsOf, IsFilled}
+use Rattle.ip_trie.specs.Kept.{AreTrieCells, IsWholeTrie}
 use Rattle.ip_trie.specs.declared.cells.Cell.{Cell}
 use Rattle.ip_trie.specs.declared.cells.Leaf.{Leaf}
 use Rattle.ip_trie.specs.declared.cells.TheConstants.{TABLE}
@@ -83,24 +83,24 @@ safe-none count cells none = subst (IsSafe count) (sym none) (record {
   rows = λ i row is. let z = next-past [] i (omega arith) in absurd (omega (arith, z, is));
 })
 
-pub whole-of : (leaves : List Leaf) (v6 : Bool) (cells : List Cell) → cells ≢ [] → AreCellsOf leaves v6 cells → (whole : List Cell) × IsFilled leaves v6 whole × IsPruned leaves v6 whole cells
+pub whole-of : (leaves : List Leaf) (v6 : Bool) (cells : List Cell) → cells ≢ [] → AreTrieCells leaves v6 cells → (whole : List Cell) × IsWholeTrie leaves v6 whole × IsPruned leaves v6 whole cells
 whole-of leaves v6 cells some (inl none) = absurd (some none.0)
 whole-of leaves v6 cells some (inr whole) = whole
 
 -- the row is the only one that may hold the bits and doesn't end above the level
 pub record IsOnly (leaves : List Leaf) (v6 : Bool) (bits level row : ℕ) : Type 0 where
-  pub inside : IsIn leaves v6 row
+  pub inside : IsOfFamily leaves v6 row
   pub deep : level ≤ level_of (leaf_at leaves row).len
-  pub only : (other : ℕ) → Has leaves v6 bits other → level ≤ level_of (leaf_at leaves other).len → other ≡ row
+  pub only : (other : ℕ) → HasBits leaves v6 bits other → level ≤ level_of (leaf_at leaves other).len → other ≡ row
 
 -- what follows on a way: a node, or the only row
 abbrev pub Follows : List Leaf → Bool → List Cell → ℕ → ℕ → ℕ → Type 0
 Follows leaves v6 whole bits level next =
     (next ≡ node whole bits level) ⊎ ((row : ℕ) × (next ≡ next_of_row row) × (node whole bits level ≢ 0) × IsOnly leaves v6 bits level row)
 
-module _ (leaves : List Leaf) (v6 : Bool) (whole : List Cell) (sound : AreLeaves leaves) (filled : IsFilled leaves v6 whole) (bits : ℕ) (small : bits < 2 ^ 128) where
+module _ (leaves : List Leaf) (v6 : Bool) (whole : List Cell) (sound : AreLeaves leaves) (filled : IsWholeTrie leaves v6 whole) (bits : ℕ) (small : bits < 2 ^ 128) where
   -- a row that has the bits has the first ones of a level above its end
-  has-top : (row level : ℕ) → Has leaves v6 bits row → level ≤ level_of (leaf_at leaves row).len → top (4 * level) (leaf_at leaves row).bits ≡ top (4 * level) bits
+  has-top : (row level : ℕ) → HasBits leaves v6 bits row → level ≤ level_of (leaf_at leaves row).len → top (4 * level) (leaf_at leaves row).bits ≡ top (4 * level) bits
   has-top row level has deep =
       let m = level-least (leaf_at leaves row).len in
       same-top (4 * level) (leaf_at leaves row).len (leaf_at leaves row).bits bits (omega (arith, m, deep)) (sound.len row) has.1
@@ -181,7 +181,7 @@ module _ (leaves : List Leaf) (v6 : Bool) (whole : List Cell) (sound : AreLeaves
   ])
 
   -- the answer after the only row
-  pub tells-last : (level row best result : ℕ) → IsOnly leaves v6 bits level row → IsLastOf (leaf_at leaves row) row bits best result → TellsBest leaves (EndsAbove leaves v6 level bits) best → TellsBest leaves (Has leaves v6 bits) result
+  pub tells-last : (level row best result : ℕ) → IsOnly leaves v6 bits level row → IsLastOf (leaf_at leaves row) row bits best result → TellsBest leaves (EndsAbove leaves v6 level bits) best → TellsBest leaves (HasBits leaves v6 bits) result
   tells-last level row best result only (inl (same, is)) t = inr (
     row,
     is,
@@ -192,7 +192,7 @@ module _ (leaves : List Leaf) (v6 : Bool) (whole : List Cell) (sound : AreLeaves
     ],
   )
   tells-last level row best result only (inr (other_bits, is)) t =
-      subst (TellsBest leaves (Has leaves v6 bits)) (sym is) (tells-all leaves v6 bits level best (λ other has. elim (cases_lt (level_of (leaf_at leaves other).len) level) [
+      subst (TellsBest leaves (HasBits leaves v6 bits)) (sym is) (tells-all leaves v6 bits level best (λ other has. elim (cases_lt (level_of (leaf_at leaves other).len) level) [
         | inl less ↦ less
-        | inr most ↦ absurd (other_bits (subst (Has leaves v6 bits) (only.only other has most) has).1)
+        | inr most ↦ absurd (other_bits (subst (HasBits leaves v6 bits) (only.only other has most) has).1)
       ]) t)

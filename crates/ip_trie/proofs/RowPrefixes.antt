@@ -11,8 +11,8 @@ use Rattle.dict_value.specs.Addresses.{IsPrefix, first_bits, prefix_of, prefix_w
 use Rattle.dict_value.specs.declared.value.Address.{Address}
 use Rattle.dict_value.specs.declared.value.Address.TheVariants as address
 use Rattle.dict_value.specs.declared.value.Prefix.{Prefix}
-use Rattle.ip_trie.specs.Cells.{AreLeaves, Has, Shares, TellsBest, aligned, leaf_at, leaf_of, no_leaf, top}
-use Rattle.ip_trie.specs.FindByAddress.{FindsByAddress, HasInCommon, HasPrefixAt, Holds, IsLongest, shortened}
+use Rattle.ip_trie.specs.Cells.{AreLeaves, HasBits, Shares, TellsBest, aligned, leaf_at, leaf_of, no_leaf, top}
+use Rattle.ip_trie.specs.FindByAddress.{FindsByAddress, HasInCommon, HasPrefixAt, HoldsAddress, IsLongest, shortened}
 use Rattle.ip_trie.specs.Kept.{AreLeavesOf}
 use Rattle.ip_trie.specs.declared.cells.Leaf.{Leaf}
 
@@ -47,7 +47,7 @@ width-is p v6 e = ap (λ b. cond b 128 32) e
 aligned-is : (p : Prefix) (v6 : Bool) → p.v6 ≡ v6 → aligned p.v6 p.bits ≡ aligned v6 p.bits
 aligned-is p v6 e = ap (λ b. aligned b p.bits) e
 
-pub holds-to : (p : Prefix) (a : Address) (v6 : Bool) (bits : ℕ) → IsPrefix p → IsBits a v6 bits → Holds p a → HoldsBits p v6 bits
+pub holds-to : (p : Prefix) (a : Address) (v6 : Bool) (bits : ℕ) → IsPrefix p → IsBits a v6 bits → HoldsAddress p a → HoldsBits p v6 bits
 holds-to p a v6 bits is (short n) h =
     let v : p.v6 ≡ false = sym (ap (λ (q : Prefix). q.v6) h) in
     let b : p.bits ≡ first_bits 32 p.len n = sym (ap (λ (q : Prefix). q.bits) h) in
@@ -58,7 +58,7 @@ holds-to p a v6 bits is (long n) h =
     let b : p.bits ≡ first_bits 128 p.len n = sym (ap (λ (q : Prefix). q.bits) h) in
     (v, ap (top p.len) (aligned-is p true v) ∙ (ap (λ (m : ℕ). m / 2 ^ (128 - p.len)) b ∙ shl-shr (n / 2 ^ (128 - p.len)) (128 - p.len)))
 
-pub holds-from : (p : Prefix) (a : Address) (v6 : Bool) (bits : ℕ) → IsPrefix p → IsBits a v6 bits → HoldsBits p v6 bits → Holds p a
+pub holds-from : (p : Prefix) (a : Address) (v6 : Bool) (bits : ℕ) → IsPrefix p → IsBits a v6 bits → HoldsBits p v6 bits → HoldsAddress p a
 holds-from p a v6 bits is (short n) (v, t) =
     let w = width-is p false v in
     let l : p.len ≤ 32 = subst (λ k. p.len ≤ k) w is.len in
@@ -103,23 +103,23 @@ module _ (texts : List (List ℕ)) (leaves : List Leaf) (read : AreLeavesOf text
       let same : e.0 ≡ p = let x = e.1 in cc (x, reads) in
       (slice_get_within leaves row (leaf_of e.0) e.3, subst IsPrefix same e.2, get_or_from_slice_get leaves row (leaf_of e.0) no_leaf e.3 ∙ ap leaf_of same)
 
-  has-from : (row : ℕ) (p : Prefix) → row < length leaves → IsPrefix p → leaf_at leaves row ≡ leaf_of p → Holds p a → Has leaves v6 bits row
+  has-from : (row : ℕ) (p : Prefix) → row < length leaves → IsPrefix p → leaf_at leaves row ≡ leaf_of p → HoldsAddress p a → HasBits leaves v6 bits row
   has-from row p l is e h =
       let q = holds-to p a v6 bits is of h in
       ((l, ap (λ (x : Leaf). x.v6) e ∙ q.0), subst (λ (x : Leaf). top x.len x.bits ≡ top x.len bits) (sym e) q.1)
 
-  has-to : (row : ℕ) (p : Prefix) → IsPrefix p → leaf_at leaves row ≡ leaf_of p → Has leaves v6 bits row → Holds p a
+  has-to : (row : ℕ) (p : Prefix) → IsPrefix p → leaf_at leaves row ≡ leaf_of p → HasBits leaves v6 bits row → HoldsAddress p a
   has-to row p is e (inside, same) =
       holds-from p a v6 bits is of (sym (ap (λ (x : Leaf). x.v6) e) ∙ inside.1, subst (λ (x : Leaf). top x.len x.bits ≡ top x.len bits) e same)
 
   -- the best row is the answer
-  pub found-none : TellsBest leaves (Has leaves v6 bits) 0 → FindsByAddress texts a None
+  pub found-none : TellsBest leaves (HasBits leaves v6 bits) 0 → FindsByAddress texts a None
   found-none (inl (z, none)) = λ place p here holds.
       let r = prefix-row place p here in
       none place (has-from place p r.0 r.1 r.2 holds)
   found-none (inr t) = absurd (let is = t.1 in omega (arith, is))
 
-  pub found-some : (cell : ℕ) → cell ≢ 0 → TellsBest leaves (Has leaves v6 bits) cell → FindsByAddress texts a (Some (cell - 1))
+  pub found-some : (cell : ℕ) → cell ≢ 0 → TellsBest leaves (HasBits leaves v6 bits) cell → FindsByAddress texts a (Some (cell - 1))
   found-some cell some (inl (z, none)) = absurd (some z)
   found-some cell some (inr (best, is, here, most)) =
       let e : best ≡ cell - 1 = omega (arith, is) in

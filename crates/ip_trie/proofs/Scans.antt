@@ -3,7 +3,7 @@ use Rattle.std.proofs.Common.{◌≡◌, ◌≢◌, ◌⊎◌, Bool, ℕ, zero, 
 use Rattle.std.specs.List.{slice_get}
 use Rattle.std.proofs.lemmas.Bool.{cases_eq, cases_lt}
 use Rattle.std.proofs.lemmas.Option.{get_or_from_slice_get}
-use Rattle.ip_trie.specs.Cells.{AreLeaves, EndsAbove, EndsAt, Has, IsClosed, IsBucket, IsTrie, Shares, TellsBest, blank, digit, leaf_at, level_of, next_at, node, row_at, top}
+use Rattle.ip_trie.specs.Cells.{AreLeaves, EndsAbove, EndsAtLevel, HasBits, IsClosed, IsBucket, IsTrie, Shares, TellsBest, blank, digit, leaf_at, level_of, next_at, node, cell_row, top}
 use Rattle.ip_trie.specs.declared.cells.Cell.{Cell}
 use Rattle.ip_trie.specs.declared.cells.Leaf.{Leaf}
 use Rattle.ip_trie.specs.declared.cells.TheConstants.{TABLE}
@@ -13,7 +13,7 @@ use Rattle.ip_trie.proofs.Tells.{tells-by, tells-level}
 
 module _ (leaves : List Leaf) (v6 : Bool) (cells : List Cell) (sound : AreLeaves leaves) (t : IsTrie leaves v6 (length leaves) cells) (bits : ℕ) (small : bits < 2 ^ 128) where
   -- where a way ends, all rows that hold the bits end above
-  pub ended : (level : ℕ) → level ≤ 32 → node cells bits level ≡ 0 → (row : ℕ) → Has leaves v6 bits row → level_of (leaf_at leaves row).len < level
+  pub ended : (level : ℕ) → level ≤ 32 → node cells bits level ≡ 0 → (row : ℕ) → HasBits leaves v6 bits row → level_of (leaf_at leaves row).len < level
   ended level l none row has = elim (cases_lt (level_of (leaf_at leaves row).len) level) [
     | inl less ↦ less
     | inr most ↦
@@ -22,7 +22,7 @@ module _ (leaves : List Leaf) (v6 : Bool) (cells : List Cell) (sound : AreLeaves
         absurd (t.paths row level has.0.0 has.0 most (same ∙ none))
   ]
 
-  pub ended-all : (row : ℕ) → Has leaves v6 bits row → level_of (leaf_at leaves row).len < 32
+  pub ended-all : (row : ℕ) → HasBits leaves v6 bits row → level_of (leaf_at leaves row).len < 32
   ended-all row has = level-within (leaf_at leaves row).len (sound.len row)
 
   -- a step by the cell that was read
@@ -31,7 +31,7 @@ module _ (leaves : List Leaf) (v6 : Bool) (cells : List Cell) (sound : AreLeaves
   step-row level best next cell l some read kept new b =
       let told = t.told bits level small l some in
       let r = ap (λ (c : Cell). c.row) read in
-      tells-level leaves v6 bits level best cell.row next b (subst (TellsBest leaves (EndsAt leaves v6 (length leaves) level bits)) r told) kept new
+      tells-level leaves v6 bits level best cell.row next b (subst (TellsBest leaves (EndsAtLevel leaves v6 (length leaves) level bits)) r told) kept new
 
   pub step-node : (level : ℕ) (cell : Cell) → node cells bits level ≢ 0 → get_or cells (node cells bits level + digit level bits) blank ≡ cell → cell.next ≡ node cells bits (level + 1)
   step-node level cell some read = sym (ap (λ (c : Cell). c.next) read) ∙ sym (node-next cells bits level some)
@@ -88,7 +88,7 @@ module _ (leaves : List Leaf) (v6 : Bool) (old new : List Cell) (bucket : ℕ) (
     ];
     rows = λ i. elim (cases_eq i bucket) [
       | inr ne ↦ let e = ap (λ (c : Cell). c.row) (other i ne) in let r = t.rows i in omega (arith, e, r)
-      | inl e ↦ let n : row_at new i ≡ cell.row = ap (row_at new) e ∙ ap (λ (c : Cell). c.row) here in let r = row in omega (arith, n, r)
+      | inl e ↦ let n : cell_row new i ≡ cell.row = ap (cell_row new) e ∙ ap (λ (c : Cell). c.row) here in let r = row in omega (arith, n, r)
     ];
     apart = λ a b l m la lb ll lm some same. t.apart a b l m la lb ll lm (λ z. some (bucket-node a l ∙ z)) (sym (bucket-node a l) ∙ (same ∙ bucket-node b m));
     paths = λ r l less in_family le none. t.paths r l less in_family le (sym (bucket-node (leaf_at leaves r).bits l) ∙ none);
@@ -96,9 +96,9 @@ module _ (leaves : List Leaf) (v6 : Bool) (old new : List Cell) (bucket : ℕ) (
     told = λ bits l lb ll some.
         let old_some : node old bits l ≢ 0 = λ z. some (bucket-node bits l ∙ z) in
         let far = (node-sound old t.size t.nexts bits l old_some).0 in
-        let e : row_at new (node new bits l + digit l bits) ≡ row_at old (node old bits l + digit l bits) =
-        ap (λ k. row_at new (k + digit l bits)) (bucket-node bits l) ∙ ap (λ (c : Cell). c.row) (other (node old bits l + digit l bits) (let w = low in λ z. omega (arith, z, far, w))) in
-        subst (TellsBest leaves (EndsAt leaves v6 (length leaves) l bits)) (sym e) (t.told bits l lb ll old_some);
+        let e : cell_row new (node new bits l + digit l bits) ≡ cell_row old (node old bits l + digit l bits) =
+        ap (λ k. cell_row new (k + digit l bits)) (bucket-node bits l) ∙ ap (λ (c : Cell). c.row) (other (node old bits l + digit l bits) (let w = low in λ z. omega (arith, z, far, w))) in
+        subst (TellsBest leaves (EndsAtLevel leaves v6 (length leaves) l bits)) (sym e) (t.told bits l lb ll old_some);
   }
 
   -- the other buckets tell what they told
@@ -128,7 +128,7 @@ tells-within leaves v6 level bits cell (inr (best, is, here, most)) = let l = he
 
 -- ---- the empty trie
 
-pub empty-trie : (leaves : List Leaf) (v6 : Bool) (cells : List Cell) → length cells ≡ TABLE + 16 → ((i : ℕ) → next_at cells i ≡ 0) → ((i : ℕ) → row_at cells i ≡ 0) → IsTrie leaves v6 0 cells
+pub empty-trie : (leaves : List Leaf) (v6 : Bool) (cells : List Cell) → length cells ≡ TABLE + 16 → ((i : ℕ) → next_at cells i ≡ 0) → ((i : ℕ) → cell_row cells i ≡ 0) → IsTrie leaves v6 0 cells
 empty-trie leaves v6 cells len nexts rows = record {
   size = omega (arith, len);
   whole = omega (arith, len);

@@ -1,7 +1,7 @@
 -- The best of some rows.
 use Rattle.std.proofs.Common.{◌≡◌, ◌≢◌, ◌⊎◌, Bool, ℕ, ◌+◌, ◌-◌, ◌<◌, ◌≤◌, List, length, inl, inr, refl, arith, sym, ◌∙◌, ap, subst}
 use Rattle.std.proofs.lemmas.Bool.{cases_eq, cases_lt}
-use Rattle.ip_trie.specs.Cells.{EndsAbove, EndsAt, Has, TellsBest, leaf_at, level_of}
+use Rattle.ip_trie.specs.Cells.{EndsAbove, EndsAtLevel, HasBits, TellsBest, leaf_at, level_of}
 use Rattle.ip_trie.specs.declared.cells.Leaf.{Leaf}
 use Rattle.ip_trie.specs.steps.Growing.{IsBettered}
 
@@ -11,20 +11,20 @@ tells-by leaves P Q cell to from (inl t) = inl (t.0, λ row q. t.1 row (from row
 tells-by leaves P Q cell to from (inr (best, is, p, most)) = inr (best, is, to best p, λ row q. most row (from row q))
 
 module _ (leaves : List Leaf) (v6 : Bool) (n level bits : ℕ) where
-  ends-more : (row : ℕ) → EndsAt leaves v6 n level bits row → EndsAt leaves v6 (n + 1) level bits row
+  ends-more : (row : ℕ) → EndsAtLevel leaves v6 n level bits row → EndsAtLevel leaves v6 (n + 1) level bits row
   ends-more row (l, has, ends) = (omega (arith, l), has, ends)
 
-  ends-less : (row : ℕ) → row ≢ n → EndsAt leaves v6 (n + 1) level bits row → EndsAt leaves v6 n level bits row
+  ends-less : (row : ℕ) → row ≢ n → EndsAtLevel leaves v6 (n + 1) level bits row → EndsAtLevel leaves v6 n level bits row
   ends-less row ne (l, has, ends) = (omega (arith, l, ne), has, ends)
 
   -- a row that doesn't end here
-  pub tells-same : (cell : ℕ) → TellsBest leaves (EndsAt leaves v6 n level bits) cell → ¬ (EndsAt leaves v6 (n + 1) level bits n) → TellsBest leaves (EndsAt leaves v6 (n + 1) level bits) cell
+  pub tells-same : (cell : ℕ) → TellsBest leaves (EndsAtLevel leaves v6 n level bits) cell → ¬ (EndsAtLevel leaves v6 (n + 1) level bits n) → TellsBest leaves (EndsAtLevel leaves v6 (n + 1) level bits) cell
   tells-same cell t other =
-      tells-by leaves (EndsAt leaves v6 n level bits) (EndsAt leaves v6 (n + 1) level bits) cell ends-more
-      (λ row e. ends-less row (λ is. other (subst (EndsAt leaves v6 (n + 1) level bits) is e)) e) t
+      tells-by leaves (EndsAtLevel leaves v6 n level bits) (EndsAtLevel leaves v6 (n + 1) level bits) cell ends-more
+      (λ row e. ends-less row (λ is. other (subst (EndsAtLevel leaves v6 (n + 1) level bits) is e)) e) t
 
   -- one that does
-  pub tells-bettered : (old new : ℕ) → TellsBest leaves (EndsAt leaves v6 n level bits) old → EndsAt leaves v6 (n + 1) level bits n → IsBettered leaves n old new → TellsBest leaves (EndsAt leaves v6 (n + 1) level bits) new
+  pub tells-bettered : (old new : ℕ) → TellsBest leaves (EndsAtLevel leaves v6 n level bits) old → EndsAtLevel leaves v6 (n + 1) level bits n → IsBettered leaves n old new → TellsBest leaves (EndsAtLevel leaves v6 (n + 1) level bits) new
   tells-bettered old new t here (inl (why, is)) = inr (
     n,
     is,
@@ -35,7 +35,7 @@ module _ (leaves : List Leaf) (v6 : Bool) (n level bits : ℕ) where
     ],
   )
     where
-      shorter : (row : ℕ) → EndsAt leaves v6 n level bits row → TellsBest leaves (EndsAt leaves v6 n level bits) old → (old ≡ 0) ⊎ ((leaf_at leaves (old - 1)).len < (leaf_at leaves n).len) → (leaf_at leaves row).len < (leaf_at leaves n).len
+      shorter : (row : ℕ) → EndsAtLevel leaves v6 n level bits row → TellsBest leaves (EndsAtLevel leaves v6 n level bits) old → (old ≡ 0) ⊎ ((leaf_at leaves (old - 1)).len < (leaf_at leaves n).len) → (leaf_at leaves row).len < (leaf_at leaves n).len
       shorter row e (inl t) why = absurd (t.1 row e)
       shorter row e (inr (best, is, p, most)) (inl zero_old) = absurd (omega (arith, is, zero_old))
       shorter row e (inr (best, is, p, most)) (inr less) =
@@ -64,7 +64,7 @@ module _ (leaves : List Leaf) (v6 : Bool) (n level bits : ℕ) where
 
 module _ (leaves : List Leaf) (v6 : Bool) (bits : ℕ) where
   -- a level more
-  pub tells-level : (level best cell next : ℕ) → TellsBest leaves (EndsAbove leaves v6 level bits) best → TellsBest leaves (EndsAt leaves v6 (length leaves) level bits) cell
+  pub tells-level : (level best cell next : ℕ) → TellsBest leaves (EndsAbove leaves v6 level bits) best → TellsBest leaves (EndsAtLevel leaves v6 (length leaves) level bits) cell
       → (cell ≡ 0 → next ≡ best) → (cell ≢ 0 → next ≡ cell) → TellsBest leaves (EndsAbove leaves v6 (level + 1) bits) next
   tells-level level best cell next t (inl (none, no_row)) kept new =
       subst (TellsBest leaves (EndsAbove leaves v6 (level + 1) bits)) (sym (kept none))
@@ -90,10 +90,10 @@ module _ (leaves : List Leaf) (v6 : Bool) (bits : ℕ) where
       )
 
   -- all rows that hold the bits end above
-  pub tells-all : (level best : ℕ) → ((row : ℕ) → Has leaves v6 bits row → level_of (leaf_at leaves row).len < level) → TellsBest leaves (EndsAbove leaves v6 level bits) best → TellsBest leaves (Has leaves v6 bits) best
-  tells-all level best all t = tells-by leaves (EndsAbove leaves v6 level bits) (Has leaves v6 bits) best (λ row e. e.0) (λ row has. (has, all row has)) t
+  pub tells-all : (level best : ℕ) → ((row : ℕ) → HasBits leaves v6 bits row → level_of (leaf_at leaves row).len < level) → TellsBest leaves (EndsAbove leaves v6 level bits) best → TellsBest leaves (HasBits leaves v6 bits) best
+  tells-all level best all t = tells-by leaves (EndsAbove leaves v6 level bits) (HasBits leaves v6 bits) best (λ row e. e.0) (λ row has. (has, all row has)) t
 
-  pub tells-above : (level more best : ℕ) → level ≤ more → ((row : ℕ) → Has leaves v6 bits row → level_of (leaf_at leaves row).len < level) → TellsBest leaves (EndsAbove leaves v6 level bits) best → TellsBest leaves (EndsAbove leaves v6 more bits) best
+  pub tells-above : (level more best : ℕ) → level ≤ more → ((row : ℕ) → HasBits leaves v6 bits row → level_of (leaf_at leaves row).len < level) → TellsBest leaves (EndsAbove leaves v6 level bits) best → TellsBest leaves (EndsAbove leaves v6 more bits) best
   tells-above level more best le all t = tells-by leaves (EndsAbove leaves v6 level bits) (EndsAbove leaves v6 more bits) best (λ row e. (e.0, (let l = e.1 in omega (arith, l, le)))) (λ row e. (e.0, all row e.0)) t
 
   pub tells-none : TellsBest leaves (EndsAbove leaves v6 0 bits) 0

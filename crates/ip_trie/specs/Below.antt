@@ -1,6 +1,6 @@
 -- What lies below the cells, and cells with a row in place of a node.
 use Rattle.std.specs.Prelude.{◌≡◌, ◌≢◌, ◌+◌, ◌-◌, ◌*◌, ◌%◌, ◌<◌, ◌≤◌, ◌⊎◌, ℕ, Bool, List, length, slice_index_or}
-use Rattle.ip_trie.specs.Cells.{IsIn, blank, digit, leaf_at, level_of, next_at, node, row_at, top}
+use Rattle.ip_trie.specs.Cells.{IsOfFamily, blank, digit, leaf_at, level_of, next_at, node, cell_row, top}
 use Rattle.ip_trie.specs.declared.cells.Below.{Below}
 use Rattle.ip_trie.specs.declared.cells.Below.TheVariants as below
 use Rattle.ip_trie.specs.declared.cells.Cell.{Cell}
@@ -31,7 +31,7 @@ PassesCell leaves cells row i level =
 -- a row of the family lies below a cell
 abbrev pub LiesBelow : List Leaf → Bool → List Cell → ℕ → ℕ → Type 0
 LiesBelow leaves v6 cells i row =
-    IsIn leaves v6 row × (PassesBucket leaves row i ⊎ ((level : ℕ) × PassesCell leaves cells row i level))
+    IsOfFamily leaves v6 row × (PassesBucket leaves row i ⊎ ((level : ℕ) × PassesCell leaves cells row i level))
 
 -- what is said of a cell: 0, one more than the only row below, or that they are many
 abbrev pub one_below : List ℕ → ℕ → ℕ
@@ -78,7 +78,7 @@ IsPrunedNext leaves v6 whole i next =
 -- the cells of a trie, with rows in place of the nodes below which they lie alone
 pub record IsPruned (leaves : List Leaf) (v6 : Bool) (whole cells : List Cell) : Type 0 where
   pub len : length cells ≡ length whole
-  pub rows : (i : ℕ) → row_at cells i ≡ row_at whole i
+  pub rows : (i : ℕ) → cell_row cells i ≡ cell_row whole i
   pub nexts : (i : ℕ) → IsPrunedNext leaves v6 whole i (next_at cells i)
 
 -- a search is safe in these cells, among so many leaves

@@ -13,21 +13,21 @@ HasPrefixAt texts place prefix =
     (text : List ℕ) × (slice_get texts place ≡ Some text) × (prefix_in text ≡ Some prefix)
 
 -- a prefix of the address's family holds the address: it is as many first bits of it
-abbrev pub Holds : Prefix → Address → Type 0
-Holds prefix address = prefix_of address prefix.len ≡ prefix
+abbrev pub HoldsAddress : Prefix → Address → Type 0
+HoldsAddress prefix address = prefix_of address prefix.len ≡ prefix
 
 -- the row has the longest prefix that holds the address, and is the first of those
 pub record IsLongest (texts : List (List ℕ)) (address : Address) (place : ℕ) : Type 0 where
   pub prefix : Prefix
   pub here : HasPrefixAt texts place prefix
-  pub holds : Holds prefix address
-  pub longest : (other : ℕ) (shorter : Prefix) → HasPrefixAt texts other shorter → Holds shorter address
+  pub holds : HoldsAddress prefix address
+  pub longest : (other : ℕ) (shorter : Prefix) → HasPrefixAt texts other shorter → HoldsAddress shorter address
       → (shorter.len < prefix.len) ⊎ ((shorter.len ≡ prefix.len) × (place ≤ other))
 
 -- what is found by an address: the row with the longest prefix, or none where no prefix holds it
 abbrev pub FindsByAddress : List (List ℕ) → Address → Option ℕ → Type 0
 FindsByAddress texts address None =
-    (place : ℕ) (prefix : Prefix) → HasPrefixAt texts place prefix → ¬ (Holds prefix address)
+    (place : ℕ) (prefix : Prefix) → HasPrefixAt texts place prefix → ¬ (HoldsAddress prefix address)
 FindsByAddress texts address (Some place) = IsLongest texts address place
 
 -- the first bits of a prefix, so many
@@ -53,6 +53,6 @@ pub record IsFirstBad (texts : List (List ℕ)) (row : ℕ) : Type 0 where
       → IsSome (prefix_in other)
 
 -- why a list of texts has no trie, want of memory aside
-abbrev pub IsRefusedFor : List (List ℕ) → TrieFault → Type 0
-IsRefusedFor texts (fault.BadPrefix row) = IsFirstBad texts row
-IsRefusedFor texts fault.NoMemory = ⊥
+abbrev pub IsTrieRefused : List (List ℕ) → TrieFault → Type 0
+IsTrieRefused texts (fault.BadPrefix row) = IsFirstBad texts row
+IsTrieRefused texts fault.NoMemory = ⊥

@@ -1,14 +1,15 @@
 // How a trie is built: row by row, and then its table.
-ghost use Rattle.std.specs.Prelude.{◌≡◌, ◌≢◌, ◌↔◌, ◌⊎◌, ◌+◌, ◌-◌, ◌*◌, ◌<◌, ◌≤◌, ◌^◌, ℕ, Bool, List, Err, IfOk, IsTrue, length};
+ghost use Rattle.std.specs.Prelude.{◌≡◌, ◌≢◌, ◌↔◌, ◌⊎◌, ◌+◌, ◌-◌, ◌*◌, ◌<◌, ◌≤◌, ◌^◌, ℕ, Bool, List, Err, IfOk};
+ghost use Rattle.std.specs.Prelude.{IsTrue, length};
 ghost use Rattle.dict_value.specs.declared.value.TheConstants.{MOST_ROWS};
 ghost use Rattle.ip_trie.specs.Below.{IsSafe};
-ghost use Rattle.ip_trie.specs.Cells.{AreLeaves, EndsAbove, IsClosed, IsIn, IsTrie, TellsBest, leaf_at, level_of};
-ghost use Rattle.ip_trie.specs.Cells.{next_at, node, row_at};
+ghost use Rattle.ip_trie.specs.Cells.{AreLeaves, EndsAbove, IsClosed, IsOfFamily, IsTrie, TellsBest, leaf_at, level_of};
+ghost use Rattle.ip_trie.specs.Cells.{next_at, node, cell_row};
 ghost use Rattle.ip_trie.specs.FindByAddress.{IsFirstBad};
 ghost use Rattle.ip_trie.specs.declared.trie.TrieFault.TheVariants as fault;
 ghost use Rattle.ip_trie.specs.declared.cells.Leaf.{Leaf};
-ghost use Rattle.ip_trie.specs.Kept.{AreCellsOf, AreLeavesOf, IsFilled};
-ghost use Rattle.ip_trie.specs.steps.Growing.{AreBettered, Grows, IsBettered, IsGrown};
+ghost use Rattle.ip_trie.specs.Kept.{AreTrieCells, AreLeavesOf, IsWholeTrie};
+ghost use Rattle.ip_trie.specs.steps.Growing.{AreBettered, GrowsCells, IsBettered, IsGrown};
 
 use crate::cells::{BLANK, Cell, Leaf, TABLE, better, digit_of, leaf_of, level_of};
 use crate::prune::{cut_all, rows_below};
@@ -38,7 +39,7 @@ pub(crate) fn leaves_of(alloc: Global, texts: &[Bytes]) -> Result<Vec<Leaf>, Tri
 
 /// Whether any leaf is of a family.
 fn has_family(leaves: &[Leaf], v6: bool) -> bool
-    ensures { IsTrue result ↔ ((row : ℕ) × IsIn leaves.now v6 row) }
+    ensures { IsTrue result ↔ ((row : ℕ) × IsOfFamily leaves.now v6 row) }
 {
     for leaf in leaves {
         if leaf.v6 == v6 {
@@ -61,7 +62,7 @@ fn covered(len: u8, level: u32) -> usize
 fn grow(cells: &mut Vec<Cell>, at: usize) -> Result<usize, NoMemory>
     requires within { at < length cells.old.items }
     requires room { length cells.old.items + 16 < 2 ^ 32 }
-    ensures grows { IfOk result (Grows cells.old.items at cells.new.items) }
+    ensures grows { IfOk result (GrowsCells cells.old.items at cells.new.items) }
     ensures room { IfOk result (λ _. length cells.new.items ≤ length cells.old.items + 16) }
 {
     let cell = cells[at];
@@ -97,7 +98,7 @@ fn bettered(leaves: &[Leaf], row: usize, old: u32) -> u32
 fn mark(cells: &mut Vec<Cell>, leaves: &[Leaf], row: usize, start: usize, end: usize)
     requires rows { length leaves.now ≤ MOST_ROWS }
     requires row { row < length leaves.now }
-    requires old { (i : ℕ) → row_at cells.old.items i ≤ row }
+    requires old { (i : ℕ) → cell_row cells.old.items i ≤ row }
     requires order { start ≤ end }
     requires end { end ≤ length cells.old.items }
     ensures { AreBettered leaves.now row start end cells.old.items cells.new.items }
@@ -121,7 +122,7 @@ fn way(
 ) -> Result<usize, NoMemory>
     requires leaves { AreLeaves leaves.now }
     requires trie { IsTrie leaves.now v6 row cells.old.items }
-    requires row { IsIn leaves.now v6 row }
+    requires row { IsOfFamily leaves.now v6 row }
     requires rows { length leaves.now ≤ MOST_ROWS }
     requires last { last ≡ level_of (leaf_at leaves.now row).len }
     requires room { length cells.old.items ≤ 65552 + 512 * row }
@@ -184,7 +185,7 @@ fn fill_table(cells: &mut Vec<Cell>)
     requires size { 65552 ≤ length cells.old.items }
     requires closed { IsClosed cells.old.items }
     ensures { (leaves : List Leaf) (v6 : Bool) → AreLeaves leaves
-        → IsTrie leaves v6 (length leaves) cells.old.items → IsFilled leaves v6 cells.new.items }
+        → IsTrie leaves v6 (length leaves) cells.old.items → IsWholeTrie leaves v6 cells.new.items }
 {
     for bucket in 0..TABLE {
         let cell = scanned(cells.as_slice(), (bucket as u128) << 112);
@@ -196,7 +197,7 @@ fn fill_table(cells: &mut Vec<Cell>)
 fn blanks(alloc: Global, count: usize) -> Result<Vec<Cell>, NoMemory>
     ensures len { IfOk result (λ cells. length cells.items ≡ count) }
     ensures next { IfOk result (λ cells. (i : ℕ) → next_at cells.items i ≡ 0) }
-    ensures row { IfOk result (λ cells. (i : ℕ) → row_at cells.items i ≡ 0) }
+    ensures row { IfOk result (λ cells. (i : ℕ) → cell_row cells.items i ≡ 0) }
 {
     match Vec::from_elem(alloc, BLANK, count) {
         Ok(cells) => Ok(cells),
@@ -208,7 +209,7 @@ fn blanks(alloc: Global, count: usize) -> Result<Vec<Cell>, NoMemory>
 pub(crate) fn cells_of(alloc: Global, leaves: &[Leaf], v6: bool) -> Result<Vec<Cell>, NoMemory>
     requires leaves { AreLeaves leaves.now }
     requires rows { length leaves.now ≤ MOST_ROWS }
-    ensures cells { IfOk result (λ cells. AreCellsOf leaves.now v6 cells.items) }
+    ensures cells { IfOk result (λ cells. AreTrieCells leaves.now v6 cells.items) }
     ensures safe { IfOk result (λ cells. IsSafe (length leaves.now) cells.items) }
 {
     if !has_family(leaves, v6) {

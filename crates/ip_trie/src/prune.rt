@@ -3,7 +3,7 @@ ghost use Rattle.std.specs.Prelude.{◌≡◌, ◌≢◌, ◌+◌, ◌-◌, ◌<
 ghost use Rattle.dict_value.specs.declared.value.TheConstants.{MOST_ROWS};
 ghost use Rattle.ip_trie.specs.Cells.{AreLeaves};
 ghost use Rattle.ip_trie.specs.Below.{AreBelow, AreCut, IsCut, Joins, one_below};
-ghost use Rattle.ip_trie.specs.Kept.{IsFilled};
+ghost use Rattle.ip_trie.specs.Kept.{IsWholeTrie};
 
 use crate::cells::{Cell, Leaf, bucket_of, digit_of, level_of, next_of_row};
 use dict_value::NoMemory;
@@ -28,7 +28,7 @@ fn join(below: &mut Vec<u32>, at: usize, row: usize)
 /// Says of the cells on a row's way that the row lies below them.
 fn join_way(below: &mut Vec<u32>, cells: &[Cell], leaves: &[Leaf], v6: bool, row: usize)
     requires leaves { AreLeaves leaves.now }
-    requires filled { IsFilled leaves.now v6 cells.now }
+    requires filled { IsWholeTrie leaves.now v6 cells.now }
     requires row { row < length leaves.now }
     requires rows { length leaves.now ≤ MOST_ROWS }
     requires below { AreBelow leaves.now v6 cells.now row below.old.items }
@@ -57,7 +57,7 @@ pub(crate) fn rows_below(
     v6: bool,
 ) -> Result<Vec<u32>, NoMemory>
     requires leaves { AreLeaves leaves.now }
-    requires filled { IsFilled leaves.now v6 cells.now }
+    requires filled { IsWholeTrie leaves.now v6 cells.now }
     requires rows { length leaves.now ≤ MOST_ROWS }
     ensures { IfOk result (λ below. AreBelow leaves.now v6 cells.now (length leaves.now) below.items) }
 {

@@ -1,13 +1,14 @@
 // The tries of both families, and the search in them.
-ghost use Rattle.std.specs.Prelude.{◌≡◌, ◌≢◌, ◌+◌, ◌-◌, ◌<◌, ◌≤◌, ◌⊎◌, ℕ, Bool, List, All, None, Some, Err, IfErr, IfOk, IsSome};
+ghost use Rattle.std.specs.Prelude.{◌≡◌, ◌≢◌, ◌+◌, ◌-◌, ◌<◌, ◌≤◌, ◌⊎◌, ℕ, Bool, List, All, None, Some, Err, IfErr};
+ghost use Rattle.std.specs.Prelude.{IfOk, IsSome};
 ghost use Rattle.std.specs.Prelude.{OnOk, length};
 ghost use Rattle.dict_value.specs.Addresses.{prefix_in};
 ghost use Rattle.dict_value.specs.Memory.{UnlessNoMemory};
 ghost use Rattle.dict_value.specs.declared.value.TheConstants.{MOST_ROWS};
 ghost use Rattle.ip_trie.specs.Below.{IsLastOf, IsSafe};
-ghost use Rattle.ip_trie.specs.Cells.{AreLeaves, Has, Shares, TellsBest, leaf_at};
-ghost use Rattle.ip_trie.specs.FindByAddress.{FindsByAddress, HasInCommon, IsRefusedFor};
-ghost use Rattle.ip_trie.specs.Kept.{AreCellsOf, AreTriesOf};
+ghost use Rattle.ip_trie.specs.Cells.{AreLeaves, HasBits, Shares, TellsBest, leaf_at};
+ghost use Rattle.ip_trie.specs.FindByAddress.{FindsByAddress, HasInCommon, IsTrieRefused};
+ghost use Rattle.ip_trie.specs.Kept.{AreTrieCells, AreTriesOf};
 ghost use Rattle.ip_trie.specs.declared.trie.TrieFault.TheVariants as fault;
 
 use crate::build::{cells_of, leaves_of};
@@ -67,9 +68,9 @@ fn found_in<S: Counter>(
     requires leaves { AreLeaves leaves.now }
     requires rows { length leaves.now ≤ MOST_ROWS }
     requires safe { IsSafe (length leaves.now) cells.now }
-    ensures found { (v6 : Bool) → AreCellsOf leaves.now v6 cells.now
-        → TellsBest leaves.now (Has leaves.now v6 bits) result }
-    ensures steps { (v6 : Bool) → AreCellsOf leaves.now v6 cells.now
+    ensures found { (v6 : Bool) → AreTrieCells leaves.now v6 cells.now
+        → TellsBest leaves.now (HasBits leaves.now v6 bits) result }
+    ensures steps { (v6 : Bool) → AreTrieCells leaves.now v6 cells.now
         → (count : ℕ) × ((count ≡ 0) ⊎ Shares leaves.now v6 bits count)
         × (S.amount steps.new ≤ S.amount steps.old + (count + 1)) }
 {
@@ -97,7 +98,7 @@ impl<S: Counter> Trie<S> {
         requires { length texts.now ≤ MOST_ROWS }
         ensures trie { IfOk result (λ trie. AreTriesOf texts.now trie.v4 trie.v6 trie.leaves) }
         ensures read { OnOk result (All (λ text. IsSome (prefix_in text)) texts.now) }
-        ensures bad { UnlessNoMemory (Err fault.NoMemory) result (IfErr result (IsRefusedFor texts.now)) }
+        ensures bad { UnlessNoMemory (Err fault.NoMemory) result (IfErr result (IsTrieRefused texts.now)) }
     {
         let leaves = leaves_of(alloc, texts)?;
         let Ok(v4) = cells_of(alloc, leaves.as_slice(), false) else {

@@ -1,5 +1,6 @@
 -- What stands next on a source, line by line.
-use Rattle.std.specs.Prelude.{◌≡◌, ◌<◌, ◌≤◌, ◌+◌, ℕ, List, [], ◌∷◌, ◌++◌, length, take, Bool, true, false, Option, IfSome}
+use Rattle.std.specs.Prelude.{◌≡◌, ◌<◌, ◌≤◌, ◌+◌, ℕ, List, [], ◌∷◌, ◌++◌, length, take, Bool, true, false, Option}
+use Rattle.std.specs.Prelude.{IfSome}
 use Rattle.std.specs.Io.KnownBytes.{prepend_known}
 use Rattle.dict_io.specs.declared.outside.Got.{Got}
 use Rattle.dict_io.specs.declared.outside.Got.TheVariants.{Bytes as GotBytes, End as GotEnd, Failed as GotFailed}
@@ -65,7 +66,7 @@ meets_end TooLong = false
 meets_end Failed = false
 
 -- the same of a link, whose other side stays as it was
-pub record Reads (ahead : List ℕ) (old : Ends) (met : Next) (held : Held) (new : Ends) : Type 0 where
+pub record ReadsLine (ahead : List ℕ) (old : Ends) (met : Next) (held : Held) (new : Ends) : Type 0 where
   pub next : IsNext ahead old.reads.known met held new.reads.known
   pub ended : new.reads.ended ≡ meets_end met
   pub cause : HasCause old.reads.faults new.reads.faults (met ≡ Failed)

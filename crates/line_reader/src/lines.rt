@@ -4,7 +4,7 @@ ghost use Rattle.std.specs.Prelude.{MatchBool};
 ghost use Rattle.dict_io.specs.Outside.{HasCause, is_end};
 ghost use Rattle.dict_value.specs.Split.{Lacks};
 ghost use Rattle.dict_value.specs.declared.letters.TheConstants.{LINE_FEED};
-ghost use Rattle.line_reader.specs.Reading.{Fills, IsLine, IsNext, Reads, ReadsAt, meets_end};
+ghost use Rattle.line_reader.specs.Reading.{Fills, IsLine, IsNext, ReadsLine, ReadsAt, meets_end};
 
 use dict_io::{Got, Link, Source};
 use dict_value::letters::LINE_FEED;
@@ -194,7 +194,7 @@ impl Lines {
     /// Reads the next line of a link.
     pub fn next_of<L: Link>(&mut self, link: &mut L) -> Next
         requires { (L.ends link.old).reads.ended ≡ false }
-        ensures { Reads self.old.ahead (L.ends link.old) result self.new (L.ends link.new) }
+        ensures { ReadsLine self.old.ahead (L.ends link.old) result self.new (L.ends link.new) }
     {
         self.next(link)
     }

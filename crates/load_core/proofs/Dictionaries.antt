@@ -15,7 +15,7 @@ use Rattle.load_core.specs.declared.world.WorldEntry.{WorldEntry}
 use Rattle.load_core.specs.declared.world.WorldDict.{WorldDict}
 use Rattle.load_core.specs.declared.world.World.{World}
 use Rattle.load_core.specs.WorldSteps.{Verdicts, IsAnswered, WorldStep, Run, candidate}
-use Rattle.load_core.specs.Laws.{running, entries_of, with_piece, joined, IsNoFinish, IsNoPublish, BeginsWith, IsOfOneLoad, newest_definition}
+use Rattle.load_core.specs.Laws.{running, entries_of, with_piece, bytes_joined, IsNoFinish, IsNoPublish, BeginsWith, IsOfOneLoad, newest_definition}
 use Rattle.load_core.specs.steps.WorldTurns.{IsShort}
 use Rattle.load_core.proofs.Runs.{joined_more, run_more}
 
@@ -33,7 +33,7 @@ module _ (judges : Verdicts) (first : World) where
     pub begins : BeginsWith d start.before opening definition
     pub pieces : Run judges begun reading now
     pub one_finish : All (IsNoFinish d) reading
-    pub taken : bytes ≡ joined d [] reading
+    pub taken : bytes ≡ bytes_joined d [] reading
 
   -- the load whose rows can be published behind these entries
   pub record IsReady (past : List WorldEvent) (now : World) (d load definition : ℕ) (bytes : List ℕ) (entries : List WorldEntry) : Type 0 where
@@ -51,7 +51,7 @@ module _ (judges : Verdicts) (first : World) where
     pub begins : BeginsWith d start.before opening definition
     pub pieces : Run judges begun reading read
     pub one_finish : All (IsNoFinish d) reading
-    pub taken : bytes ≡ joined d [] reading
+    pub taken : bytes ≡ bytes_joined d [] reading
     pub finish : IsAnswered judges read d (Finish d (Whole (Code (pos 0)))) effect.Ready finished
     pub list : entries_of read d ≡ entries
     pub accepted : judges (candidate definition entries bytes) None

@@ -9,7 +9,7 @@ use Rattle.dict_value.specs.declared.value.Value.{Value}
 use Rattle.dict_value.specs.declared.value.Value.TheVariants.{U}
 use Rattle.packed_rows.specs.Columns.{cell_at, cell_of}
 use Rattle.load_core.specs.steps.FlatSteps.{IsSmallCell}
-use Rattle.load_core.specs.FlatRows.{HasKey, HasSmallKey, IsFirstLarge, key_bound}
+use Rattle.load_core.specs.FlatRows.{HasFirstKey, HasSmallKey, IsFirstLarge, key_bound}
 
 -- one more row with a small key
 pub small-more : (rows : List (List Value)) (i : ℕ) (row : List Value) → i < length rows → row ≡ get_or rows i row → AllByRecursion HasSmallKey (take i rows) → HasSmallKey row → AllByRecursion HasSmallKey (take (i + 1) rows)
@@ -18,7 +18,7 @@ small-more rows i row within here small last =
     (AllByRecursion-append HasSmallKey (take i rows) (row ∷ []) small (last, tt))
 
 -- the first row of a list that has a large key
-pub first-large : (rows : List (List Value)) (i key : ℕ) (row : List Value) → i < length rows → row ≡ get_or rows i row → AllByRecursion HasSmallKey (take i rows) → HasKey row key → key_bound ≤ key → IsFirstLarge rows key
+pub first-large : (rows : List (List Value)) (i key : ℕ) (row : List Value) → i < length rows → row ≡ get_or rows i row → AllByRecursion HasSmallKey (take i rows) → HasFirstKey row key → key_bound ≤ key → IsFirstLarge rows key
 first-large rows i key row within here small has large = record {
   before = take i rows;
   row = row;

@@ -19,7 +19,7 @@ use Rattle.load_core.specs.declared.world.WorldDict.{WorldDict}
 use Rattle.load_core.specs.declared.world.WorldCaller.{WorldCaller}
 use Rattle.load_core.specs.declared.world.World.{World}
 use Rattle.load_core.specs.WorldSteps.{Verdicts, Finishes, FinishesIn, TakesEvent, loaded, DictStep, IsAnswered, CallerEvents, WorldStep, Run, last_number, dict_at, with_dict, caller_at, learnt, empty_world}
-use Rattle.load_core.specs.Laws.{entries_in, posted_in, posted_of, cause_in, answers_in, answers_of, EachDict, Grows, IsNumbered, IsRising, IsCounted, IsPosted, OneLoadEach, IsOfOneLoad, definition_in, CurrentIsNewest, FailsFor, FailingKeeps, PublishedClears, RefusedKeeps, IsLengthAtEnter, LengthsAtEnter, NeverFall, NeverOlder, NeverBelowLearnt}
+use Rattle.load_core.specs.Laws.{entries_in, posted_in, posted_of, cause_in, answers_in, answers_of, EachDict, KeepsFronts, HasNumbersInOrder, IsRising, IsBalanced, IsPostedOnlyOf, OneLoadEach, IsOfOneLoad, definition_in, CurrentIsNewest, FailsFor, FailingKeeps, PublishedClears, RefusedKeeps, IsLengthAtEnter, LengthsAtEnter, NeverFall, NeverOlder, NeverBelowLearnt}
 use Rattle.load_core.specs.steps.WorldTurns.{IsShort}
 use Rattle.load_core.proofs.Callers.{last_number_is}
 use Rattle.load_core.proofs.Dictionaries.{IsSound}
@@ -50,23 +50,23 @@ module _ (judges : Verdicts) where
   each_dict P h n g m events now r =
       All-from_slice_get P now.dictionaries (λ d x found. h (empty_world n g m) now events d x ((sound_world judges n g m events now r).dicts d x found))
 
-  pub grows : Grows judges
+  pub grows : KeepsFronts judges
   grows n g m early mid r late now s d = run_grows judges mid late now s d
 
-  pub numbers : EachDict judges IsNumbered
-  numbers = each_dict IsNumbered (λ first now past d x h. h.numbers)
+  pub numbers : EachDict judges HasNumbersInOrder
+  numbers = each_dict HasNumbersInOrder (λ first now past d x h. h.numbers)
 
   pub loads_rise : EachDict judges IsRising
   loads_rise = each_dict IsRising (λ first now past d x h. h.rising)
 
-  pub counts : EachDict judges IsCounted
-  counts = each_dict IsCounted (λ first now past d x h. (h.oks, h.loads))
+  pub counts : EachDict judges IsBalanced
+  counts = each_dict IsBalanced (λ first now past d x h. (h.oks, h.loads))
 
   pub short : EachDict judges IsShort
   short = each_dict IsShort (λ first now past d x h. h.short)
 
-  pub posted_is : EachDict judges IsPosted
-  posted_is = each_dict IsPosted (λ first now past d x h. h.posted)
+  pub posted_is : EachDict judges IsPostedOnlyOf
+  posted_is = each_dict IsPostedOnlyOf (λ first now past d x h. h.posted)
 
   pub one_load_each : OneLoadEach judges
   one_load_each n g m events now r d before after entry h = go (dict_at now d) refl h

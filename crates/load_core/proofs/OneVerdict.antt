@@ -12,13 +12,13 @@ use Rattle.row_text.specs.declared.decode.DecodeFault.{DecodeFault}
 use Rattle.row_text.specs.declared.decode.DecodeFault.TheVariants as decode
 use Rattle.row_text.specs.Decoding.{Decodes}
 use Rattle.row_text.proofs.OneDecoding.{one-decoding}
-use Rattle.load_core.specs.FlatRows.{DecodedAs, HasKey, HasSmallKey, IsFirstLarge, HasNoTableFor, IsTable, key_bound}
+use Rattle.load_core.specs.FlatRows.{DecodedAs, HasFirstKey, HasSmallKey, IsFirstLarge, HasNoTableFor, IsTable, key_bound}
 use Rattle.load_core.specs.WorldRows.{world_columns, row_verdicts}
 use Rattle.load_core.specs.WorldSteps.{Candidate}
 
 -- two rows with a large key, each behind rows with small ones, are one
 first-same : (before early : List (List Value)) (row other : List Value) (after late : List (List Value)) (key large : ℕ) → before ++ row ∷ after ≡ early ++ other ∷ late
-    → AllByRecursion HasSmallKey before → AllByRecursion HasSmallKey early → HasKey row key → key_bound ≤ key → HasKey other large → key_bound ≤ large → key ≡ large
+    → AllByRecursion HasSmallKey before → AllByRecursion HasSmallKey early → HasFirstKey row key → key_bound ≤ key → HasFirstKey other large → key_bound ≤ large → key ≡ large
 first-same [] [] row other after late key large e small smaller (values, is) above (others, are) beyond =
     let same : row ≡ other = cc in
     cc (sym is ∙ same ∙ are)
@@ -32,7 +32,7 @@ first-same (b ∷ before) (c ∷ early) row other after late key large e small s
     first-same before early row other after late key large (cc) small.1 smaller.1 has above had beyond
 
 -- no row of a table has a large key
-none-large : (before : List (List Value)) (row : List Value) (after : List (List Value)) (key : ℕ) → AllByRecursion HasSmallKey (before ++ row ∷ after) → HasKey row key → key < key_bound
+none-large : (before : List (List Value)) (row : List Value) (after : List (List Value)) (key : ℕ) → AllByRecursion HasSmallKey (before ++ row ∷ after) → HasFirstKey row key → key < key_bound
 none-large [] row after key small has = small.0 key has
 none-large (b ∷ before) row after key small has = none-large before row after key small.1 has
 
@@ -98,7 +98,7 @@ one-verdict load (Some c) None p (rows, t) = absurd (not-refused (Decodes Tab wo
 one-verdict load (Some c) (Some d) p q = ap Some (one-cause (Decodes Tab world_columns load.bytes) (one-decoding Tab world_columns load.bytes) c d p q)
 
 -- a row's key is small, or is large
-row-key : (row : List Value) → HasSmallKey row ⊎ ((key : ℕ) × HasKey row key × (key_bound ≤ key))
+row-key : (row : List Value) → HasSmallKey row ⊎ ((key : ℕ) × HasFirstKey row key × (key_bound ≤ key))
 row-key [] = inl (λ key h. absurd (cc (h.1)))
 row-key (value.U n ∷ row) = elim (cases_lt n key_bound) [
   | inl lt ↦ inl (λ key h. let same : n ≡ key = cc (h.1) in omega arith)

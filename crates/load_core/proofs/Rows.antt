@@ -17,7 +17,7 @@ use Rattle.load_core.specs.DictSteps.{most_loads, DictStepped, risen, refused, r
 use Rattle.load_core.specs.declared.world.Ended.{Ended}
 use Rattle.load_core.specs.declared.world.WorldEvent.TheVariants as event
 use Rattle.load_core.specs.declared.world.WorldEvent.{WorldEvent}
-use Rattle.load_core.specs.WorldSteps.{Verdicts, Candidate, Finishes, FinishesIn, DictStep, loaded, kept, dict_after}
+use Rattle.load_core.specs.WorldSteps.{Verdicts, Candidate, Finishes, FinishesIn, DictStep, loaded, kept_after, dict_after}
 use Rattle.load_core.specs.Laws.{running}
 
 -- what each row leaves and answers
@@ -175,12 +175,12 @@ core_refused c Post h =
 
 -- a dictionary after what its core makes of an event
 abbrev pub after_step : WorldDict → WorldEvent → DictStepped → WorldDict
-after_step x event s = record (kept x event s.effect) { core = s.core }
+after_step x event s = record (kept_after x event s.effect) { core = s.core }
 
 -- and it leaves the dictionary
 pub dict_refused : (x : WorldDict) (event : WorldEvent) (taken : DictEvent) → (stepped x.core taken).effect ≡ effect.Refused → dict_after x event taken ≡ x
 dict_refused x event taken h =
-    ap (λ (e : DictEffect). record (kept x event e) { core = (stepped x.core taken).core }) h
+    ap (λ (e : DictEffect). record (kept_after x event e) { core = (stepped x.core taken).core }) h
     ∙ ap (λ (c : DictCore). record x { core = c }) (core_refused x.core taken h)
 
 -- where a load runs, the ending is that of how its child ended

@@ -9,11 +9,11 @@ use Rattle.load_core.specs.declared.world.WorldDict.{WorldDict}
 use Rattle.load_core.specs.declared.world.WorldCaller.{WorldCaller}
 use Rattle.load_core.specs.declared.world.World.{World}
 use Rattle.load_core.specs.WorldSteps.{Verdicts, DictStep, IsAnswered, Informs, DictEvents, NamingEvents, CallerEvents, WorldStep, Run, dict_at, caller_at, with_caller, entered, learnt}
-use Rattle.load_core.specs.Laws.{with_piece, joined}
+use Rattle.load_core.specs.Laws.{with_piece, bytes_joined}
 use Rattle.load_core.proofs.Places.{dict_at-with_same, dict_at-with_other, caller_at-with_same, caller_at-with_other_dict, caller_at-with_other}
 
 -- the pieces of one more event join to those so far
-pub joined_more : (d : ℕ) (bytes : List ℕ) (events : List WorldEvent) (event : WorldEvent) → joined d bytes (events ++ event ∷ []) ≡ with_piece d (joined d bytes events) event
+pub joined_more : (d : ℕ) (bytes : List ℕ) (events : List WorldEvent) (event : WorldEvent) → bytes_joined d bytes (events ++ event ∷ []) ≡ with_piece d (bytes_joined d bytes events) event
 joined_more d bytes [] event = refl
 joined_more d bytes (e ∷ events) event = joined_more d (with_piece d bytes e) events event
 

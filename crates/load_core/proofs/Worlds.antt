@@ -15,7 +15,7 @@ use Rattle.load_core.specs.declared.world.WorldDict.{WorldDict}
 use Rattle.load_core.specs.declared.world.WorldCaller.{WorldCaller}
 use Rattle.load_core.specs.declared.world.World.{World}
 use Rattle.load_core.specs.DictSteps.{stepped}
-use Rattle.load_core.specs.WorldSteps.{Verdicts, TakesEvent, DictStep, DictEvents, NamingEvents, CallerEvents, WorldStep, Run, kept, dict_at, caller_at, entered, learnt, entry_of, empty_dict, empty_caller, empty_world}
+use Rattle.load_core.specs.WorldSteps.{Verdicts, TakesEvent, DictStep, DictEvents, NamingEvents, CallerEvents, WorldStep, Run, kept_after, dict_at, caller_at, entered, learnt, entry_of, empty_dict, empty_caller, empty_world}
 use Rattle.load_core.specs.Laws.{with_piece, entries_in, entries_of}
 use mathlib.Core.List.{IsPrefix}
 use Rattle.load_core.proofs.Callers.{IsInformed, informed_same, informed_told, informed_shown, last_number_is}
@@ -26,7 +26,7 @@ use Rattle.load_core.proofs.Places.{dict_at-with_same, dict_at-with_other}
 use Rattle.load_core.proofs.Runs.{run_more, at_dict, caller_turn, CallerTurn, IsShown, IsTold}
 
 -- what an answer keeps begins with the entries so far
-kept_grows : (x : WorldDict) (event : WorldEvent) (answer : DictEffect) → IsPrefix x.entries (kept x event answer).entries
+kept_grows : (x : WorldDict) (event : WorldEvent) (answer : DictEffect) → IsPrefix x.entries (kept_after x event answer).entries
 kept_grows x event (effect.Begun load) = ([], append-nil x.entries)
 kept_grows x event effect.Taken = ([], append-nil x.entries)
 kept_grows x event effect.Ready = ([], append-nil x.entries)

@@ -19,11 +19,11 @@ abbrev pub key_bound : ℕ
 key_bound = 500000
 
 -- the row's first value is this key
-abbrev pub HasKey : List Value → ℕ → Type 0
-HasKey row key = (values : List Value) × (row ≡ U key ∷ values)
+abbrev pub HasFirstKey : List Value → ℕ → Type 0
+HasFirstKey row key = (values : List Value) × (row ≡ U key ∷ values)
 
 abbrev pub HasSmallKey : List Value → Type 0
-HasSmallKey row = (key : ℕ) → HasKey row key → key < key_bound
+HasSmallKey row = (key : ℕ) → HasFirstKey row key → key < key_bound
 
 -- this is the first key that a flat layout doesn't take
 pub record IsFirstLarge (rows : List (List Value)) (key : ℕ) : Type 0 where
@@ -32,7 +32,7 @@ pub record IsFirstLarge (rows : List (List Value)) (key : ℕ) : Type 0 where
   pub after : List (List Value)
   pub parts : rows ≡ before ++ row ∷ after
   pub small : AllByRecursion HasSmallKey before
-  pub here : HasKey row key
+  pub here : HasFirstKey row key
   pub large : key_bound ≤ key
 
 -- the rows that a text decodes to, each with a key that the layout takes

@@ -73,9 +73,9 @@ with_piece d bytes (Piece e piece) =
     if nat_eq e d && nat_le (length bytes + length piece) most_bytes then bytes ++ piece else bytes
 with_piece d bytes _ = bytes
 
-abbrev pub joined : ℕ → List ℕ → List WorldEvent → List ℕ
-joined d bytes [] = bytes
-joined d bytes (event ∷ events) = joined d (with_piece d bytes event) events
+abbrev pub bytes_joined : ℕ → List ℕ → List WorldEvent → List ℕ
+bytes_joined d bytes [] = bytes
+bytes_joined d bytes (event ∷ events) = bytes_joined d (with_piece d bytes event) events
 
 -- the event isn't the end of a child of dictionary d; it isn't a Publish of d
 abbrev pub IsNoFinish : ℕ → WorldEvent → Type 0
@@ -116,7 +116,7 @@ pub record IsOfOneLoad (judges : Verdicts) (first : World) (events : List WorldE
   pub definition : BeginsWith d start.before opening entry.definition
   pub pieces : Run judges begun reading read
   pub one_finish : All (IsNoFinish d) reading
-  pub bytes : entry.bytes ≡ joined d [] reading
+  pub bytes : entry.bytes ≡ bytes_joined d [] reading
   pub finish : IsAnswered judges read d (Finish d (Whole (Code (pos 0)))) effect.Ready finished
   pub list : entries_of read d ≡ before
   pub accepted : judges (candidate entry.definition before entry.bytes) None
@@ -150,24 +150,24 @@ abbrev pub EachDict : Verdicts → (WorldDict → Type 0) → Type 0
 EachDict judges P = InEachRun judges (λ first events now. All P now.dictionaries)
 
 -- the n-th entry has the number n
-abbrev pub IsNumbered : WorldDict → Type 0
-IsNumbered x = map (λ e. e.number) x.entries ≡ range_with_len 1 (length x.entries)
+abbrev pub HasNumbersInOrder : WorldDict → Type 0
+HasNumbersInOrder x = map (λ e. e.number) x.entries ≡ range_with_len 1 (length x.entries)
 
 -- load numbers rise along the list
 abbrev pub IsRising : WorldDict → Type 0
 IsRising x = IsStrictlyIncreasing (map (λ e. e.load) x.entries)
 
 -- each load that began published an entry, failed, or runs
-abbrev pub IsCounted : WorldDict → Type 0
-IsCounted x = (x.core.oks ≡ length x.entries) × (x.core.loads ≡ x.core.oks + x.core.fails + running x.core.phase)
+abbrev pub IsBalanced : WorldDict → Type 0
+IsBalanced x = (x.core.oks ≡ length x.entries) × (x.core.loads ≡ x.core.oks + x.core.fails + running x.core.phase)
 
 -- what was posted was published
-abbrev pub IsPosted : WorldDict → Type 0
-IsPosted x = x.posted ≤ length x.entries
+abbrev pub IsPostedOnlyOf : WorldDict → Type 0
+IsPostedOnlyOf x = x.posted ≤ length x.entries
 
 -- what later events add to a list leaves its front
-abbrev pub Grows : Verdicts → Type 0
-Grows judges =
+abbrev pub KeepsFronts : Verdicts → Type 0
+KeepsFronts judges =
     InEachRun judges (λ first early mid.
     (late : List WorldEvent) (now : World) → Run judges mid late now →
     (d : ℕ) → IsPrefix (entries_of mid d) (entries_of now d))
@@ -195,14 +195,14 @@ abbrev pub definition_in : Option WorldDict → Option ℕ
 definition_in None = None
 definition_in (Some x) = Some x.definition
 
-abbrev pub definition_of : World → ℕ → Option ℕ
-definition_of w d = definition_in (dict_at w d)
+abbrev pub current_definition : World → ℕ → Option ℕ
+current_definition w d = definition_in (dict_at w d)
 
 -- a dictionary is left with its entries and its current definition, and with this cause of its last load
 pub record FailsFor (old new : World) (d : ℕ) (why : Cause) : Type 0 where
   pub cause : cause_of new d ≡ last.Of why
   pub entries : entries_of new d ≡ entries_of old d
-  pub definition : definition_of new d ≡ definition_of old d
+  pub definition : current_definition new d ≡ current_definition old d
 
 -- a Finish that is answered Failing leaves the list and the definition, and its cause is the last one
 abbrev pub FailingKeeps : Verdicts → Type 0

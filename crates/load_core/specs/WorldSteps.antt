@@ -86,9 +86,9 @@ definition_for x (StartWith d definition) = definition
 definition_for x _ = x.definition
 
 -- the bytes that an event brings
-abbrev pub piece_of : WorldEvent → List ℕ
-piece_of (Piece d piece) = piece
-piece_of _ = []
+abbrev pub event_piece : WorldEvent → List ℕ
+event_piece (Piece d piece) = piece
+event_piece _ = []
 
 -- the entry that a dictionary's load becomes
 abbrev pub entry_of : WorldDict → ℕ → WorldEntry
@@ -96,18 +96,18 @@ entry_of x number =
     record { number = number; definition = x.loading; bytes = x.bytes; load = x.core.loads }
 
 -- what a dictionary keeps beside its core after an event, by the core's answer
-abbrev pub kept : WorldDict → WorldEvent → DictEffect → WorldDict
-kept x event (effect.Begun load) = record x { loading = definition_for x event; bytes = [] }
-kept x event effect.Taken = record x { bytes = x.bytes ++ piece_of event }
-kept x event (effect.Published number) =
+abbrev pub kept_after : WorldDict → WorldEvent → DictEffect → WorldDict
+kept_after x event (effect.Begun load) = record x { loading = definition_for x event; bytes = [] }
+kept_after x event effect.Taken = record x { bytes = x.bytes ++ event_piece event }
+kept_after x event (effect.Published number) =
     record x { definition = x.loading; entries = x.entries ++ entry_of x number ∷ [] }
-kept x event effect.Posted = record x { posted = length x.entries }
-kept x event _ = x
+kept_after x event effect.Posted = record x { posted = length x.entries }
+kept_after x event _ = x
 
 -- a dictionary after an event, which is this one of its core
 abbrev pub dict_after : WorldDict → WorldEvent → DictEvent → WorldDict
 dict_after x event taken =
-    record (kept x event (stepped x.core taken).effect) { core = (stepped x.core taken).core }
+    record (kept_after x event (stepped x.core taken).effect) { core = (stepped x.core taken).core }
 
 -- the core takes this event, answers so, and leaves the dictionary so
 pub record TakesEvent (x : WorldDict) (event : WorldEvent) (taken : DictEvent) (answer : DictEffect) (y : WorldDict)

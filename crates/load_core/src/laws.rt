@@ -1,5 +1,6 @@
 // What holds over every list of events.
-ghost use Rattle.load_core.specs.Laws.{EachDict, Grows, IsNumbered, IsRising, IsCounted, IsPosted, OneLoadEach};
+ghost use Rattle.load_core.specs.Laws.{EachDict, KeepsFronts, HasNumbersInOrder, IsRising, IsBalanced};
+ghost use Rattle.load_core.specs.Laws.{IsPostedOnlyOf, OneLoadEach};
 ghost use Rattle.load_core.specs.Laws.{CurrentIsNewest, FailingKeeps, PublishedClears, RefusedKeeps};
 ghost use Rattle.load_core.specs.Laws.{LengthsAtEnter, NeverFall};
 ghost use Rattle.load_core.specs.Laws.{NeverOlder, NeverBelowLearnt};
@@ -15,16 +16,16 @@ use crate::judge::Judge;
 /// entries before them, a dictionary's current definition is that of its last entry, and no caller goes
 /// back.
 pub fn core_law<J: Judge>()
-    ensures grows { Grows J.judges }
-    ensures numbers { EachDict J.judges IsNumbered }
+    ensures grows { KeepsFronts J.judges }
+    ensures numbers { EachDict J.judges HasNumbersInOrder }
     ensures one_load_each { OneLoadEach J.judges }
     ensures current { CurrentIsNewest J.judges }
     ensures loads_rise { EachDict J.judges IsRising }
     ensures failing { FailingKeeps J.judges }
     ensures published { PublishedClears J.judges }
     ensures refused { RefusedKeeps J.judges }
-    ensures counts { EachDict J.judges IsCounted }
-    ensures posted { EachDict J.judges IsPosted }
+    ensures counts { EachDict J.judges IsBalanced }
+    ensures posted { EachDict J.judges IsPostedOnlyOf }
     ensures at_enter { LengthsAtEnter J.judges }
     ensures never_fall { NeverFall J.judges }
     ensures never_older { NeverOlder J.judges }

@@ -3,7 +3,7 @@ ghost use Rattle.std.specs.Prelude.{◌≡◌, [], ◌∷◌, ◌++◌, ◌≤�
 ghost use Rattle.std.specs.Prelude.{slice_get, slice_set};
 ghost use Rattle.std.specs.List.{range_with_len};
 ghost use Rattle.load_core.specs.WorldSteps.{Finishes, Run, WorldStep, counted, definition_for, dict_after};
-ghost use Rattle.load_core.specs.WorldSteps.{last_number, loaded, knowing, piece_of};
+ghost use Rattle.load_core.specs.WorldSteps.{last_number, loaded, knowing, event_piece};
 ghost use Rattle.load_core.specs.WorldSteps.{empty_dict, empty_caller, empty_world};
 ghost use Rattle.load_core.specs.steps.WorldTurns.{DictTurn, InformsAt, IsShort, KnowsAt, published_as, TurnsAt};
 
@@ -100,7 +100,7 @@ const MOST_BYTES: usize = 4_294_967_295;
 
 /// The bytes that an event brings.
 fn piece_of(event: &WorldEvent) -> &[u8]
-    ensures { result.now ≡ piece_of event.now }
+    ensures { result.now ≡ event_piece event.now }
 {
     match event {
         WorldEvent::Piece(_, piece) => piece.as_slice(),

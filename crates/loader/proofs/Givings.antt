@@ -8,7 +8,7 @@ use Rattle.child_io.specs.declared.pieces.PieceEnd.{PieceEnd}
 use Rattle.dict_schema.specs.declared.definition.Definition.{Definition}
 use Rattle.dict_value.specs.Addresses.{prefix_in}
 use Rattle.dict_value.specs.declared.fault.Cause.TheVariants as cause
-use Rattle.dict_version.specs.Keys.{texts_of, numbers_of}
+use Rattle.dict_version.specs.Keys.{key_texts, numbers_of}
 use Rattle.dict_version.specs.Lookups.{lookup_by}
 use Rattle.dict_version.specs.Rows.{IsRefusedBy, LayoutTakes, LayoutTakesBy}
 use Rattle.dict_version.specs.declared.fault.LayoutFault.{LayoutFault}
@@ -43,7 +43,7 @@ none-refused by.KeyList rows why taken h = h
 none-refused (by.Range strategy) rows why taken h = h
 none-refused by.Address rows (refusal.KeyTooLarge number) taken h = h
 none-refused by.Address rows (refusal.BadPrefix row) taken h =
-    let texts = texts_of rows in
+    let texts = key_texts rows in
     let within = slice_get_within texts h.place h.text h.here in
     let some : IsSome (prefix_in h.text) = subst (λ (text : List ℕ). IsSome (prefix_in text)) (get_or_from_slice_get texts h.place h.text h.text h.here) (taken h.place h.text within) in
     let none = h.bad in

@@ -5,17 +5,17 @@ use Rattle.std.proofs.lemmas.Bool.{cases_lt}
 use Rattle.std.proofs.lemmas.Option.{same_Some, slice_get-get_or, slice_get-map, slice_get_within}
 use Rattle.dict_value.specs.declared.value.Value.{Value}
 use Rattle.dict_version.proofs.RowCells.{cell-of_row}
-use Rattle.dict_version.specs.Keys.{number_in, numbers_of}
+use Rattle.dict_version.specs.Keys.{key_number, numbers_of}
 use Rattle.load_core.proofs.Lists.{All-from_slice_get}
 use Rattle.packed_rows.specs.Columns.{RowList, cell_at}
 
 -- the key of the row at a place
-pub key-here : (rows : RowList) (place key : ℕ) (cell : Option Value) → place < length rows → cell ≡ cell_at rows place 0 → key ≡ number_in cell → slice_get (numbers_of rows) place ≡ Some key
+pub key-here : (rows : RowList) (place key : ℕ) (cell : Option Value) → place < length rows → cell ≡ cell_at rows place 0 → key ≡ key_number cell → slice_get (numbers_of rows) place ≡ Some key
 key-here rows place key cell within is same =
     let row : List Value = get_or rows place [] in
     let at : slice_get rows place ≡ Some row = slice_get-get_or rows place [] within in
-    slice_get-map (λ (r : List Value). number_in (slice_get r 0)) rows place ∙ ap (option_map (λ (r : List Value). number_in (slice_get r 0))) at
-    ∙ ap Some (sym (same ∙ ap number_in (is ∙ cell-of_row rows place 0 row at)))
+    slice_get-map (λ (r : List Value). key_number (slice_get r 0)) rows place ∙ ap (option_map (λ (r : List Value). key_number (slice_get r 0))) at
+    ∙ ap Some (sym (same ∙ ap key_number (is ∙ cell-of_row rows place 0 row at)))
 
 -- the keys before a place are below the limit
 abbrev pub AreBelow : RowList → ℕ → ℕ → Type 0

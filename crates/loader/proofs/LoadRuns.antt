@@ -30,7 +30,7 @@ use Rattle.loader.specs.declared.fault.LoadFault.TheVariants.{Refused, NoMemory}
 use Rattle.loader.specs.declared.loading.Fresh.{Fresh}
 use Rattle.loader.specs.declared.making.Made.{Made}
 use Rattle.loader.specs.steps.Kept.{fault_end}
-use Rattle.loader.specs.steps.Makings.{GivesVersion, IsLoaded, RunsVersion, kept_in}
+use Rattle.loader.specs.steps.Makings.{GivesVersion, IsLoadedBy, RunsVersion, kept_in}
 use Rattle.loader.specs.steps.Publishings.{IsKept, IsLaidOver, IsNewToken, PublishesAs, load_end_of, stamped}
 
 -- what is judged over the rows that are kept is judged over the list
@@ -54,7 +54,7 @@ origin-of ran folder d since list former output ending version kept now since_is
     })
 
 -- a version was made of what a child gave
-pub was-run : {C : Type 0} (runs : Running) (same : Type 0) (ran : Ran) (d : Definition) (words : List (List ℕ)) (former : RowList) (made : Made C) → IsLoaded runs same ran d words former (Ok made) → RunsVersion runs ran d words former (Ok made)
+pub was-run : {C : Type 0} (runs : Running) (same : Type 0) (ran : Ran) (d : Definition) (words : List (List ℕ)) (former : RowList) (made : Made C) → IsLoadedBy runs same ran d words former (Ok made) → RunsVersion runs ran d words former (Ok made)
 was-run runs same ran d words former made (inl run) = run
 was-run runs same ran d words former made (inr (none, e)) = absurd (cc (e))
 
@@ -92,11 +92,11 @@ module _ (runs : Running) (same : Type 0) (ran : Ran) (d : Definition) (folder :
   runs-published made (Err NoMemory) after core run is none count = whole (Ok made) load.NoMemory after core run is
   runs-published made (Err (Refused why)) after core run is none count = absurd (cc (none))
 
-  pub runs-refused : {C : Type 0} (why : Cause) → new ≡ core_after begun (end_events (load.Failed why)) → IsLoaded {C = C} runs same ran d (asked_since d folder since) former (Err (Refused why)) → RunsLoad runs d now folder list list before new (load.Failed why)
+  pub runs-refused : {C : Type 0} (why : Cause) → new ≡ core_after begun (end_events (load.Failed why)) → IsLoadedBy {C = C} runs same ran d (asked_since d folder since) former (Err (Refused why)) → RunsLoad runs d now folder list list before new (load.Failed why)
   runs-refused why core (inl run) = whole (Err (Refused why)) (load.Failed why) list core run (loads-over d list former (outcome_of run.ending (concat run.pieces)) (Err why) laid run.given, refl)
   runs-refused why core (inr (none, e)) = absurd (cc (e))
 
-  pub runs-out : {C : Type 0} → new ≡ core_after begun (end_events load.NoMemory) → IsLoaded {C = C} runs same ran d (asked_since d folder since) former (Err NoMemory) → RunsLoad runs d now folder list list before new load.NoMemory ⊎ StartsNone same d now list list before new load.NoMemory
+  pub runs-out : {C : Type 0} → new ≡ core_after begun (end_events load.NoMemory) → IsLoadedBy {C = C} runs same ran d (asked_since d folder since) former (Err NoMemory) → RunsLoad runs d now folder list list before new load.NoMemory ⊎ StartsNone same d now list list before new load.NoMemory
   runs-out core (inl run) = inl (whole (Err NoMemory) load.NoMemory list core run refl)
   runs-out core (inr (none, e)) = inr (record {
     none = none;
@@ -109,7 +109,7 @@ module _ (runs : Running) (same : Type 0) (ran : Ran) (d : Definition) (folder :
     };
   })
 
-  pub runs-ended : {C : Type 0} (T : Type 0) (f : LoadFault) → new ≡ core_after begun (end_events (fault_end f)) → IsLoaded {C = C} runs same ran d (asked_since d folder since) former (Err f) → RunsLoad runs d now folder list list before new (load_end_of {T = T} (Err f)) ⊎ StartsNone same d now list list before new (load_end_of {T = T} (Err f))
+  pub runs-ended : {C : Type 0} (T : Type 0) (f : LoadFault) → new ≡ core_after begun (end_events (fault_end f)) → IsLoadedBy {C = C} runs same ran d (asked_since d folder since) former (Err f) → RunsLoad runs d now folder list list before new (load_end_of {T = T} (Err f)) ⊎ StartsNone same d now list list before new (load_end_of {T = T} (Err f))
   runs-ended T (Refused why) core h = inl (runs-refused why core h)
   runs-ended T NoMemory core h = runs-out core h
 

@@ -24,7 +24,7 @@ use Rattle.dict_value.specs.declared.fault.Cause.TheVariants as cause
 use Rattle.dict_value.specs.declared.fault.Exit.TheVariants.{Code, Killed}
 use Rattle.dict_value.specs.declared.value.TheConstants.{MOST_ROWS}
 use Rattle.dict_version.specs.Contents.{Contents}
-use Rattle.dict_version.specs.Keys.{numbers_of, texts_of}
+use Rattle.dict_version.specs.Keys.{numbers_of, key_texts}
 use Rattle.dict_version.specs.Lookups.{lookup_by}
 use Rattle.dict_version.specs.Rows.{IsRefusedBy, LayoutTakesBy}
 use Rattle.dict_version.specs.declared.fault.LayoutFault.{LayoutFault}
@@ -87,7 +87,7 @@ refused-once : (looked : LookupBy) (rows : RowList) (f g : LayoutFault) → IsRe
 refused-once (by.SmallNumber most) rows (layout.KeyTooLarge n) (layout.KeyTooLarge m) p q =
     ap (λ (k : ℕ). layout.KeyTooLarge k) (first-large-once (numbers_of rows) most n m p q)
 refused-once by.Address rows (layout.BadPrefix n) (layout.BadPrefix m) p q =
-    ap (λ (k : ℕ). layout.BadPrefix k) (first-bad-once (texts_of rows) n m p q)
+    ap (λ (k : ℕ). layout.BadPrefix k) (first-bad-once (key_texts rows) n m p q)
 refused-once (by.SmallNumber most) rows (layout.KeyTooLarge n) (layout.BadPrefix m) p q = absurd q
 refused-once (by.SmallNumber most) rows (layout.KeyTooLarge n) layout.NoMemory p q = absurd q
 refused-once (by.SmallNumber most) rows (layout.BadPrefix n) g p q = absurd p
@@ -108,7 +108,7 @@ taken-not (by.SmallNumber most) rows (layout.KeyTooLarge n) taken p =
 taken-not (by.SmallNumber most) rows (layout.BadPrefix n) taken p = absurd p
 taken-not (by.SmallNumber most) rows layout.NoMemory taken p = absurd p
 taken-not by.Address rows (layout.BadPrefix n) taken p =
-    some-none (texts_of rows) p.text p.bad (All-at (λ text. IsSome (prefix_in text)) (texts_of rows) p.place p.text p.here taken)
+    some-none (key_texts rows) p.text p.bad (All-at (λ text. IsSome (prefix_in text)) (key_texts rows) p.place p.text p.here taken)
 taken-not by.Address rows (layout.KeyTooLarge n) taken p = absurd p
 taken-not by.Address rows layout.NoMemory taken p = absurd p
 taken-not by.Number rows f taken p = absurd p

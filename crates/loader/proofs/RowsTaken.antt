@@ -10,7 +10,7 @@ use Rattle.dict_value.specs.Addresses.{prefix_in}
 use Rattle.dict_value.specs.Values.{FitsColumn}
 use Rattle.dict_value.specs.declared.value.Value.{Value}
 use Rattle.dict_value.specs.declared.value.Value.TheVariants.{Null, U, I, S, Day, Second, Id, V4, V6, Dec}
-use Rattle.dict_version.specs.Keys.{number_in, text_in}
+use Rattle.dict_version.specs.Keys.{key_number, text_in}
 use Rattle.dict_version.specs.Lookups.{lookup_by}
 use Rattle.dict_version.specs.Rows.{LayoutTakesBy, TakesRows}
 use Rattle.dict_version.specs.declared.lookup.LookupBy.{LookupBy}
@@ -86,7 +86,7 @@ mapped-overlay P f keys former fresh rows laid a b =
     All-map P f rows (overlay-all Q keys former fresh rows (of former a) (of fresh b) laid)
 
 pub overlay-taken : (looked : LookupBy) (keys : ℕ) (former fresh rows : RowList) → Overlay keys former fresh rows → LayoutTakesBy looked former → LayoutTakesBy looked fresh → LayoutTakesBy looked rows
-overlay-taken (by.SmallNumber most) keys former fresh rows laid a b = mapped-overlay (λ number. number < most) (λ row. number_in (slice_get row 0)) keys former fresh rows laid a b
+overlay-taken (by.SmallNumber most) keys former fresh rows laid a b = mapped-overlay (λ number. number < most) (λ row. key_number (slice_get row 0)) keys former fresh rows laid a b
 overlay-taken by.Number keys former fresh rows laid a b = tt
 overlay-taken by.KeyList keys former fresh rows laid a b = tt
 overlay-taken (by.Range strategy) keys former fresh rows laid a b = tt

@@ -18,9 +18,9 @@ use Rattle.dict_value.specs.declared.value.Field.TheVariants as field
 use Rattle.dict_value.specs.declared.value.Format.TheVariants.{Tab}
 use Rattle.dict_value.specs.declared.value.Value.{Value}
 use Rattle.dict_value.specs.declared.value.Value.TheVariants.{Null, U, I, S, Day, Second, Id, V4, V6, Dec}
-use Rattle.dict_version.specs.Keys.{number_in, numbers_of}
+use Rattle.dict_version.specs.Keys.{key_number, numbers_of}
 use Rattle.flat_layout.specs.Cells.{IsFirstTooLarge}
-use Rattle.load_core.specs.FlatRows.{HasKey, HasNoTableFor, HasSmallKey, IsFirstLarge}
+use Rattle.load_core.specs.FlatRows.{HasFirstKey, HasNoTableFor, HasSmallKey, IsFirstLarge}
 use Rattle.load_core.specs.WorldRows.{key_column, text_column, world_columns, row_verdicts}
 use Rattle.load_core.specs.WorldSteps.{Candidate}
 use Rattle.packed_rows.specs.Columns.{RowList}
@@ -62,7 +62,7 @@ from-world text answer h = subst (λ (columns : List Reader). Decodes Tab column
 -- ---- the keys
 
 abbrev key_of : List Value → ℕ
-key_of row = number_in (slice_get row 0)
+key_of row = key_number (slice_get row 0)
 
 small-row : (row : List Value) → HasSmallKey row → key_of row < 500000
 small-row [] h = omega arith
@@ -80,7 +80,7 @@ small-row (Dec z ∷ values) h = omega arith
 row-small : (row : List Value) → key_of row < 500000 → HasSmallKey row
 row-small row h key (values, e) = let same : key_of row ≡ key = ap key_of e in omega (arith, h, same)
 
-has-key : (row : List Value) (key : ℕ) → key_of row ≡ key → 500000 ≤ key → HasKey row key
+has-key : (row : List Value) (key : ℕ) → key_of row ≡ key → 500000 ≤ key → HasFirstKey row key
 has-key [] key e large = absurd (omega (arith, e, large))
 has-key (U n ∷ values) key e large = (values, ap (λ k. U k ∷ values) e)
 has-key (Null ∷ values) key e large = absurd (omega (arith, e, large))
@@ -118,7 +118,7 @@ first-large (row ∷ rows) (suc place) key here large lower =
       large = rest.large;
     }
 
-key-there : (before : RowList) (row : List Value) (after : RowList) (key : ℕ) → HasKey row key → slice_get (numbers_of (before ++ row ∷ after)) (length before) ≡ Some key
+key-there : (before : RowList) (row : List Value) (after : RowList) (key : ℕ) → HasFirstKey row key → slice_get (numbers_of (before ++ row ∷ after)) (length before) ≡ Some key
 key-there [] row after key (values, e) = ap (λ r. Some (key_of r)) e
 key-there (first ∷ before) row after key has = key-there before row after key has
 

@@ -17,7 +17,7 @@ use Rattle.load_core.proofs.Places.{dict_at-with_same}
 use Rattle.load_core.proofs.Rows.{begun, failed, piece_row, posted, published, read, start_row, taken}
 use Rattle.load_core.proofs.Runs.{run_more}
 use Rattle.load_core.specs.DictSteps.{DictStepped, most_loads, refused, risen, row, stepped}
-use Rattle.load_core.specs.WorldSteps.{Finishes, FinishesIn, Former, Run, TakesEvent, Verdicts, WorldStep, counted, dict_at, entry_of, formers, kept, loaded, most_bytes, with_dict}
+use Rattle.load_core.specs.WorldSteps.{Finishes, FinishesIn, Former, Run, TakesEvent, Verdicts, WorldStep, counted, dict_at, entry_of, formers, kept_after, loaded, most_bytes, with_dict}
 use Rattle.load_core.specs.declared.dictionary.DictCore.{DictCore}
 use Rattle.load_core.specs.declared.dictionary.DictEffect.TheVariants as effect
 use Rattle.load_core.specs.declared.dictionary.DictEvent.{DictEvent}
@@ -50,10 +50,10 @@ record Reaches (judges : Verdicts) (old : World) (place : ℕ) (events : List Wo
   many : now.definitions ≡ old.definitions
 
 -- what an event leaves whose effect is known
-takes : (x : WorldDict) (event : WorldEvent) (by : DictEvent) (s : DictStepped) → stepped x.core by ≡ s → TakesEvent x event by (stepped x.core by).effect (record (kept x event s.effect) { core = s.core })
+takes : (x : WorldDict) (event : WorldEvent) (by : DictEvent) (s : DictStepped) → stepped x.core by ≡ s → TakesEvent x event by (stepped x.core by).effect (record (kept_after x event s.effect) { core = s.core })
 takes x event by s is = record {
   answers = refl;
-  leaves = sym (ap (λ (t : DictStepped). record (kept x event t.effect) { core = t.core }) is);
+  leaves = sym (ap (λ (t : DictStepped). record (kept_after x event t.effect) { core = t.core }) is);
 }
 
 module _ (judges : Verdicts) (old : World) (place : ℕ) where

@@ -315,11 +315,27 @@ fn loads_that_are_used_up_start_no_child(rt: HostRuntime) -> Result<(), Fail> {
     let mut d = Dictionary::new(alloc, &NOT_STARTED.sketch)?;
     let end = LoadEnd::Published(1);
     let first = loaded(1, 0, LastCause::None);
-    see_load(&rt, alloc, &mut d, &mut spawner, end, first, NOT_STARTED.rows)?;
+    see_load(
+        &rt,
+        alloc,
+        &mut d,
+        &mut spawner,
+        end,
+        first,
+        NOT_STARTED.rows,
+    )?;
     d.use_up();
     let end = LoadEnd::Failed(Cause::Spent);
     let left = loaded(1, 0, LastCause::Of(Cause::Spent));
-    see_load(&rt, alloc, &mut d, &mut spawner, end, left, NOT_STARTED.rows)?;
+    see_load(
+        &rt,
+        alloc,
+        &mut d,
+        &mut spawner,
+        end,
+        left,
+        NOT_STARTED.rows,
+    )?;
     assert_eq!(rt; spawner.starts().len(), 1);
     Ok(())
 }

@@ -15,7 +15,7 @@ ghost use Rattle.loader.specs.Loaders.{RunsLoad, RunsOne, StartsNone};
 ghost use Rattle.loader.specs.Origins.{HasOrigin, IsSince, asked_since, newest};
 ghost use Rattle.loader.specs.steps.Defaults.{ColumnsFit, NoBadDefault};
 ghost use Rattle.loader.specs.steps.Kept.{fault_end};
-ghost use Rattle.loader.specs.steps.Makings.{CanFollow, IsLoaded, kept_in};
+ghost use Rattle.loader.specs.steps.Makings.{CanFollow, IsLoadedBy, kept_in};
 ghost use Rattle.loader.specs.steps.Publishings.{IsKept, IsLaidOver, IsNewToken, PublishesAs, load_end_of, stamped};
 
 use crate::fault::LoadFault;
@@ -66,7 +66,7 @@ fn load_version<C: Counter, S: Spawner>(
     requires reading { core.old.phase ≡ Reading }
     ensures core { core.new ≡ core.old }
     ensures loaded { let runs = RunsOne S.scripts S.starts S.started S.C.told S.C.history S.C.faults d.now spawner.old
-        spawner.new in IsLoaded runs (spawner.new ≡ spawner.old) S.ran d.now (asked_since d.now folder.now since)
+        spawner.new in IsLoadedBy runs (spawner.new ≡ spawner.old) S.ran d.now (asked_since d.now folder.now since)
         (kept_in former.now) result }
     ensures cause { HasCause (S.start_faults spawner.old) (S.start_faults spawner.new)
         (IsErrOf result (LoadFault.Refused Cause.Start)) }

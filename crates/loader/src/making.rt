@@ -6,7 +6,7 @@ ghost use Rattle.dict_schema.specs.Shapes.{cell_types, shape_of};
 ghost use Rattle.dict_schema.specs.Sound.{IsSound};
 ghost use Rattle.dict_schema.specs.declared.definition.Update.TheVariants as update;
 ghost use Rattle.dict_value.specs.declared.value.TheConstants.{MOST_ROWS};
-ghost use Rattle.dict_version.specs.Keys.{number_in, numbers_of};
+ghost use Rattle.dict_version.specs.Keys.{key_number, numbers_of};
 ghost use Rattle.dict_version.specs.Lookups.{lookup_by};
 ghost use Rattle.dict_version.specs.Rows.{IsRefusedBy, LayoutTakesBy, TakesRows};
 ghost use Rattle.dict_version.specs.declared.fault.LayoutFault.TheVariants as refusal;
@@ -64,7 +64,7 @@ fn build<C: Counter>(alloc: Global, d: &Definition, rows: Rows) -> Result<Versio
 
 /// The number that a cell is.
 fn number_in(cell: Option<Cell<'_>>) -> u64
-    ensures { result ≡ number_in (option_map meaning cell.entry) }
+    ensures { result ≡ key_number (option_map meaning cell.entry) }
 {
     match cell {
         Some(Cell::U(number)) => number,

@@ -15,7 +15,7 @@ use Rattle.dict_value.specs.declared.value.Value.{Value}
 use Rattle.packed_rows.specs.Columns.{RowList, cell_at, cell_of}
 use Rattle.packed_rows.specs.Packs.{Building}
 use Rattle.overlay.specs.Overlays.{HaveTypes, IsFirst, keys_of, StandOf}
-use Rattle.overlay.specs.steps.Standing.{AddsRow, IsBetween, IsFirstBehind, StandTo}
+use Rattle.overlay.specs.steps.Standing.{AddsRowAt, IsBetween, IsFirstBehind, StandTo}
 
 -- a key has one least place
 pub least-one : (keys : List (List Value)) (key : List Value) (a b : ℕ) → IsLeastPlace keys key a → IsLeastPlace keys key b → a ≡ b
@@ -138,7 +138,7 @@ abbrev pub with_row : Building → List Value → Building
 with_row old row = record old { rows = old.rows ++ row ∷ [] }
 
 pub adds-row : (old out new : Building) (rows : RowList) (place : ℕ) (row : List Value) → slice_get rows place ≡ Some row → out.types ≡ old.types → out.rows ≡ old.rows → out.open_row ≡ row → old.open_row ≡ []
-    → new ≡ record out { rows = out.rows ++ out.open_row ∷ []; open_row = [] } → AddsRow old rows place new
+    → new ≡ record out { rows = out.rows ++ out.open_row ∷ []; open_row = [] } → AddsRowAt old rows place new
 adds-row old out new rows place row at types list held none e = subst P (sym at) (e ∙ first ∙ second ∙ third ∙ fourth)
   where
     P : Option (List Value) → Type 0
@@ -159,7 +159,7 @@ adds-row old out new rows place row at types list held none e = subst P (sym at)
     fourth : made old.types (old.rows ++ row ∷ []) [] ≡ made old.types (old.rows ++ row ∷ []) old.open_row
     fourth = ap (λ r. made old.types (old.rows ++ row ∷ []) r) (sym none)
 
-pub added : (old new : Building) (rows : RowList) (place : ℕ) (row : List Value) → slice_get rows place ≡ Some row → AddsRow old rows place new → new ≡ with_row old row
+pub added : (old new : Building) (rows : RowList) (place : ℕ) (row : List Value) → slice_get rows place ≡ Some row → AddsRowAt old rows place new → new ≡ with_row old row
 added old new rows place row at h =
     let P : Option (List Value) → Type 0 = λ o. IfSome o (λ r. new ≡ with_row old r) in
     subst P at h

@@ -5,7 +5,7 @@ ghost use Rattle.dict_value.specs.declared.value.Value.{Value};
 ghost use Rattle.hashed_layout.specs.KeyTables.{IsKeyTableOf};
 ghost use Rattle.packed_rows.specs.Columns.{RowList};
 ghost use Rattle.overlay.specs.Overlays.{HaveTypes, Overlay};
-ghost use Rattle.overlay.specs.steps.Standing.{AddsRow, IsBetween, StandTo};
+ghost use Rattle.overlay.specs.steps.Standing.{AddsRowAt, IsBetween, StandTo};
 
 use crate::keys::{is_first, is_first_behind, keys_of};
 use dict_value::{AttrType, KeyList, MOST_ROWS, NoMemory};
@@ -24,7 +24,7 @@ fn push_row(
     requires few { length out.old.rows < 4294967295 }
     requires fit { HaveTypes types.now rows.now }
     requires within { place < length rows.now }
-    ensures { OnOk result (AddsRow out.old rows.now place out.new) }
+    ensures { OnOk result (AddsRowAt out.old rows.now place out.new) }
 {
     for column in 0..types.len() {
         out.push_cell(&rows.cell(place, column))?;

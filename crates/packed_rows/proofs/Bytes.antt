@@ -6,7 +6,7 @@ use Rattle.std.proofs.lemmas.List.{append_assoc, get_or_append_left, get_or-appe
 use Rattle.std.proofs.lemmas.Nat.{from_le_bytes-to_le_bytes_2, from_le_bytes-to_le_bytes_4, from_le_bytes-to_le_bytes_8}
 use Rattle.packed_rows.specs.declared.column.CellWidth.{CellWidth}
 use Rattle.packed_rows.specs.declared.column.CellWidth.TheVariants.{One, Two, Four, Eight, Sixteen}
-use Rattle.packed_rows.specs.Widths.{bytes_in, limit_of, kept, nat_at, two_at, four_at, eight_at}
+use Rattle.packed_rows.specs.Widths.{width_bytes, limit_of, kept, nat_at, two_at, four_at, eight_at}
 
 same : (xs ys : List ℕ) (k : ℕ) → k < length xs → slice_index (xs ++ ys) k ≡ slice_index xs k
 same xs ys k below = get_or_append_left xs ys 0 k below
@@ -38,8 +38,8 @@ eight xs ys at fits =
     λ j. from_le_bytes w64 (a j ∷ b j ∷ c j ∷ d j ∷ e j ∷ f j ∷ g j ∷ h j ∷ [])
 
 -- a number stays where it is when bytes follow
-pub nat_at-append : (w : CellWidth) (xs ys : List ℕ) (i : ℕ) → (i + 1) * bytes_in w ≤ length xs → nat_at w (xs ++ ys) i ≡ nat_at w xs i
-unfolding nat_at bytes_in
+pub nat_at-append : (w : CellWidth) (xs ys : List ℕ) (i : ℕ) → (i + 1) * width_bytes w ≤ length xs → nat_at w (xs ++ ys) i ≡ nat_at w xs i
+unfolding nat_at width_bytes
 nat_at-append One xs ys i fits = same xs ys i (omega arith)
 nat_at-append Two xs ys i fits = two xs ys (i * 2) (omega arith)
 nat_at-append Four xs ys i fits = four xs ys (i * 4) (omega arith)
@@ -95,16 +95,16 @@ sixteen-last xs at n is fits =
     omega (arith, lower, upper)
 
 -- the number that was kept last is read again
-pub nat_at-last : (w : CellWidth) (xs : List ℕ) (i n : ℕ) → length xs ≡ i * bytes_in w → n < limit_of w → nat_at w (xs ++ kept w n) i ≡ n
-unfolding nat_at bytes_in limit_of kept
+pub nat_at-last : (w : CellWidth) (xs : List ℕ) (i n : ℕ) → length xs ≡ i * width_bytes w → n < limit_of w → nat_at w (xs ++ kept w n) i ≡ n
+unfolding nat_at width_bytes limit_of kept
 nat_at-last One xs i n is fits = later xs (n ∷ []) i 0 i (omega arith) (omega arith)
 nat_at-last Two xs i n is fits = two-last xs (i * 2) n is fits
 nat_at-last Four xs i n is fits = four-last xs (i * 4) n is fits
 nat_at-last Eight xs i n is fits = eight-last xs (i * 8) n is fits
 nat_at-last Sixteen xs i n is fits = sixteen-last xs (i * 16) n is fits
 
-pub length-kept : (w : CellWidth) (n : ℕ) → length (kept w n) ≡ bytes_in w
-unfolding bytes_in kept
+pub length-kept : (w : CellWidth) (n : ℕ) → length (kept w n) ≡ width_bytes w
+unfolding width_bytes kept
 length-kept One n = refl
 length-kept Two n = refl
 length-kept Four n = refl

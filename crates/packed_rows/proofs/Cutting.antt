@@ -9,7 +9,7 @@ use Rattle.dict_value.specs.declared.value.ColType.{ColType}
 use Rattle.dict_value.specs.declared.value.Value.{Value}
 use Rattle.packed_rows.specs.declared.column.Column.{Column}
 use Rattle.packed_rows.specs.declared.column.CellWidth.{CellWidth}
-use Rattle.packed_rows.specs.Widths.{bytes_in, kept, nat_at, width_of}
+use Rattle.packed_rows.specs.Widths.{width_bytes, kept, nat_at, cell_width}
 use Rattle.packed_rows.specs.Columns.{AllEndWithin, EndWithin, Filled, FrontHasCells, HasCells, HaveCells, Holds, cut, cut_front, end_from, end_in, is_text, null_in, rows_in, start_of, value_from, value_in, RowList}
 use Rattle.packed_rows.specs.Packs.{AreColumnsOf, ArePacksOf, IsColumnOf, Packs, building, column_bytes, column_nulls, open_in, text_of_rows, texts_of, types_of}
 use Rattle.packed_rows.proofs.Bytes.{length-kept, nat_at-append}
@@ -62,8 +62,8 @@ cut-step cs ds n place c d is within at cut_is =
 
 -- a column that is cut
 
-longer : (c : Column) (n limit : ℕ) → Holds c (n + 1) limit → n * bytes_in (width_of c.ty.base) ≤ length c.cells
-longer c n limit holds = omega (arith, holds.cells, add-mul n 1 (bytes_in (width_of c.ty.base)))
+longer : (c : Column) (n limit : ℕ) → Holds c (n + 1) limit → n * width_bytes (cell_width c.ty.base) ≤ length c.cells
+longer c n limit holds = omega (arith, holds.cells, add-mul n 1 (width_bytes (cell_width c.ty.base)))
 
 filled-front : (cs : List Column) (n place limit : ℕ) → Filled cs n place limit → FrontHasCells cs n place
 filled-front [] n place limit filled = tt
@@ -84,10 +84,10 @@ front-has cs text n place packs = filled-front cs n place (length text) packs.fi
 pub have-before : (cs : List Column) (text : List ℕ) (n place : ℕ) → Packs cs text n place → HaveCells cs n
 have-before cs text n place packs = filled-have cs n place (length text) packs.filled
 
-cut-number : (w : CellWidth) (cells : List ℕ) (n i : ℕ) → n * bytes_in w ≤ length cells → i < n → nat_at w (take (n * bytes_in w) cells) i ≡ nat_at w cells i
+cut-number : (w : CellWidth) (cells : List ℕ) (n i : ℕ) → n * width_bytes w ≤ length cells → i < n → nat_at w (take (n * width_bytes w) cells) i ≡ nat_at w cells i
 cut-number w cells n i within below =
-    let size = n * bytes_in w in
-    let room = room-for i n (bytes_in w) (length (take size cells)) (length-take-le size cells within) below in
+    let size = n * width_bytes w in
+    let room = room-for i n (width_bytes w) (length (take size cells)) (length-take-le size cells within) below in
     sym (nat_at-append w (take size cells) (drop size cells) i room) ∙ ap (λ (bs : List ℕ). nat_at w bs i) (take-append-drop size cells)
 
 cut-null : (nullable : Bool) (nulls : List Bool) (n i : ℕ) → i < n → (nullable && slice_index_or (if nullable then take n nulls else nulls) i false) ≡ (nullable && slice_index_or nulls i false)
@@ -103,17 +103,17 @@ cut-value : (c : Column) (n limit most i s : ℕ) (text : List ℕ) → Holds c 
     → value_in (cut n c) (take most text) i s ≡ value_in c text i s
 unfolding value_in null_in
 cut-value c n limit most i s text holds within ends below =
-    let number = cut-number (width_of c.ty.base) c.cells n i (longer c n limit holds) below in
+    let number = cut-number (cell_width c.ty.base) c.cells n i (longer c n limit holds) below in
     let null = cut-null c.ty.nullable c.nulls n i below in
-    (λ j. value_from c.ty.base (null j) s (number j) (take most text)) ∙ cut-text c.ty.base (null_in c i) s (nat_at (width_of c.ty.base) c.cells i) most text within (ends i below)
+    (λ j. value_from c.ty.base (null j) s (number j) (take most text)) ∙ cut-text c.ty.base (null_in c i) s (nat_at (cell_width c.ty.base) c.cells i) most text within (ends i below)
 
 cut-end : (c : Column) (n limit i s : ℕ) → Holds c (n + 1) limit → i < n → end_in (cut n c) i s ≡ end_in c i s
 unfolding end_in
-cut-end c n limit i s holds below = ap (λ m. end_from c.ty.base s m) (cut-number (width_of c.ty.base) c.cells n i (longer c n limit holds) below)
+cut-end c n limit i s holds below = ap (λ m. end_from c.ty.base s m) (cut-number (cell_width c.ty.base) c.cells n i (longer c n limit holds) below)
 
 whole-value : (c : Column) (n most i s : ℕ) (text : List ℕ) → most ≤ length text → EndWithin c n most → i < n → value_in c (take most text) i s ≡ value_in c text i s
 unfolding value_in
-whole-value c n most i s text within ends below = cut-text c.ty.base (null_in c i) s (nat_at (width_of c.ty.base) c.cells i) most text within (ends i below)
+whole-value c n most i s text within ends below = cut-text c.ty.base (null_in c i) s (nat_at (cell_width c.ty.base) c.cells i) most text within (ends i below)
 
 cut-same : (cs : List Column) (n place limit most : ℕ) (text : List ℕ) → Filled cs n place limit → AllEndWithin cs n most → most ≤ length text
     → AllSame cs (cut_front n place cs) text (take most text) n
@@ -142,9 +142,9 @@ cut-filled (c ∷ cs) n zero limit most filled settled = (
 )
 cut-filled (c ∷ cs) n (suc place) limit most filled settled = (
   record {
-    cells = length-take-le (n * bytes_in (width_of c.ty.base)) c.cells (longer c n limit filled.0);
+    cells = length-take-le (n * width_bytes (cell_width c.ty.base)) c.cells (longer c n limit filled.0);
     nulls = cut-nulls c.ty.nullable c.nulls n filled.0.nulls;
-    ends = λ i below text. subst (λ m. m ≤ most) (sym (cut-number (width_of c.ty.base) c.cells n i (longer c n limit filled.0) below)) (settled.0 i below text);
+    ends = λ i below text. subst (λ m. m ≤ most) (sym (cut-number (cell_width c.ty.base) c.cells n i (longer c n limit filled.0) below)) (settled.0 i below text);
   },
   cut-filled cs n place limit most filled.1 settled.1,
 )
@@ -173,11 +173,11 @@ cut-column : (c : Column) (k n limit : ℕ) (rows : RowList) (row : List Value) 
 cut-column c k n limit rows row below holds is =
     let open_cells = open-cells c k rows row below is in
     let open_nulls = open-nulls c k rows row below is in
-    let w = width_of c.ty.base in
+    let w = cell_width c.ty.base in
     record {
-      cells = ap (λ (bs : List ℕ). take (n * bytes_in w) bs) open_cells.1
-          ∙ front-of (column_bytes c.ty.base k 0 rows) (kept w open_cells.0) (n * bytes_in w)
-          (omega (arith, ap (λ (bs : List ℕ). length bs) open_cells.1, holds.cells, length-append (column_bytes c.ty.base k 0 rows) (kept w open_cells.0), length-kept w open_cells.0, add-mul n 1 (bytes_in w)));
+      cells = ap (λ (bs : List ℕ). take (n * width_bytes w) bs) open_cells.1
+          ∙ front-of (column_bytes c.ty.base k 0 rows) (kept w open_cells.0) (n * width_bytes w)
+          (omega (arith, ap (λ (bs : List ℕ). length bs) open_cells.1, holds.cells, length-append (column_bytes c.ty.base k 0 rows) (kept w open_cells.0), length-kept w open_cells.0, add-mul n 1 (width_bytes w)));
       nulls = cut-bits c.ty.nullable c.nulls (column_nulls k rows) open_nulls.0 n holds.nulls open_nulls.1;
     }
 

@@ -19,7 +19,7 @@ use Rattle.dict_value.specs.declared.value.Value.TheVariants.{U, I, S, Day, Seco
 use Rattle.dict_value.specs.Values.{FitsColumn, HasType}
 use Rattle.dict_value.specs.Numbers.{is_within}
 use Rattle.packed_rows.specs.declared.column.Column.{Column}
-use Rattle.packed_rows.specs.Widths.{bytes_in, limit_of, nat_at, kept, width_of}
+use Rattle.packed_rows.specs.Widths.{width_bytes, limit_of, nat_at, kept, cell_width}
 use Rattle.packed_rows.specs.Columns.{Holds, between, end_from, end_in, grown, is_null, is_text, null_in, number_of, signed_width, text_of_value, value_from, value_in}
 use Rattle.packed_rows.proofs.Bytes.{length-kept, nat_at-append, nat_at-last}
 
@@ -65,14 +65,14 @@ pub value-text : (c : Column) (count i start : ℕ) (text more : List ℕ) → H
     → value_in c (text ++ more) i start ≡ value_in c text i start
 unfolding value_in
 value-text c count i start text more holds below =
-    value_from-append c.ty.base (null_in c i) start (nat_at (width_of c.ty.base) c.cells i) text more (holds.ends i below)
+    value_from-append c.ty.base (null_in c i) start (nat_at (cell_width c.ty.base) c.cells i) text more (holds.ends i below)
 
 pub room-for : (i count w size : ℕ) → size ≡ count * w → i < count → (i + 1) * w ≤ size
 room-for i count w size is below = rw is (mul-le-mul_right w (omega arith))
 
 pub number-same : (c : Column) (count limit i n : ℕ) → Holds c count limit → i < count
-    → nat_at (width_of c.ty.base) (c.cells ++ kept (width_of c.ty.base) n) i ≡ nat_at (width_of c.ty.base) c.cells i
-number-same c count limit i n holds below = nat_at-append (width_of c.ty.base) c.cells (kept (width_of c.ty.base) n) i (room-for i count (bytes_in (width_of c.ty.base)) (length c.cells) holds.cells below)
+    → nat_at (cell_width c.ty.base) (c.cells ++ kept (cell_width c.ty.base) n) i ≡ nat_at (cell_width c.ty.base) c.cells i
+number-same c count limit i n holds below = nat_at-append (cell_width c.ty.base) c.cells (kept (cell_width c.ty.base) n) i (room-for i count (width_bytes (cell_width c.ty.base)) (length c.cells) holds.cells below)
 
 null-same : (c : Column) (count limit i n : ℕ) (b : Bool) → Holds c count limit → i < count → null_in (grown c n b) i ≡ null_in c i
 unfolding null_in
@@ -161,7 +161,7 @@ back t (Dec n) nullable end start text fits at_end at_start = absurd fits
 
 -- the number of a value that fits is below the limit of its width
 pub number-fits : (t : ColType) (v : Value) (nullable : Bool) (end : ℕ) → FitsColumn (record { base = t; nullable = nullable }) v → end < 2 ^ 64
-    → number_of t end v < limit_of (width_of t)
+    → number_of t end v < limit_of (cell_width t)
 unfolding limit_of
 number-fits type.Str Null nullable end fits below = below
 number-fits type.UInt8 Null nullable end fits below = omega arith
@@ -210,7 +210,7 @@ pub value-last : (c : Column) (count : ℕ) (v : Value) (end start : ℕ) (text 
 unfolding value_in null_in
 value-last c count v end start text holds fits at_end below at_start =
     let null = nulls-last c.ty.nullable c.nulls (is_null v) count holds.nulls (fits-null c.ty v fits) in
-    let number = nat_at-last (width_of c.ty.base) c.cells count (number_of c.ty.base end v) holds.cells (number-fits c.ty.base v c.ty.nullable end fits below) in
+    let number = nat_at-last (cell_width c.ty.base) c.cells count (number_of c.ty.base end v) holds.cells (number-fits c.ty.base v c.ty.nullable end fits below) in
     (λ j. value_from c.ty.base (null j) start (number j) (text ++ text_of_value v)) ∙ back c.ty.base v c.ty.nullable end start text fits at_end at_start
 
 pub end-of : (t : ColType) (v : Value) (nullable : Bool) (end start : ℕ) → FitsColumn (record { base = t; nullable = nullable }) v
@@ -227,7 +227,7 @@ pub end-last : (c : Column) (count : ℕ) (v : Value) (end start : ℕ) (text : 
     → end_in (grown c (number_of c.ty.base end v) (is_null v)) count start ≡ end
 unfolding end_in
 end-last c count v end start text holds fits at_end below at_start =
-    let number = nat_at-last (width_of c.ty.base) c.cells count (number_of c.ty.base end v) holds.cells (number-fits c.ty.base v c.ty.nullable end fits below) in
+    let number = nat_at-last (cell_width c.ty.base) c.cells count (number_of c.ty.base end v) holds.cells (number-fits c.ty.base v c.ty.nullable end fits below) in
     let none : text_of_value v ≡ [] → end ≡ start = λ is. omega (arith, at_end, at_start, length-append text (text_of_value v), ap length is) in
     ap (λ m. end_from c.ty.base start m) number ∙ end-of c.ty.base v c.ty.nullable end start fits none
 
@@ -240,15 +240,15 @@ nulls-more true nulls b n is allowed = omega (arith, length-append nulls (b ∷ 
 nulls-more false nulls b n is allowed = absurd (false≢true allowed)
 
 -- the column holds one cell more
-pub holds-grown : (c : Column) (count limit more x : ℕ) (b : Bool) → Holds c count limit → limit ≤ more → x < limit_of (width_of c.ty.base)
+pub holds-grown : (c : Column) (count limit more x : ℕ) (b : Bool) → Holds c count limit → limit ≤ more → x < limit_of (cell_width c.ty.base)
     → (is_text c.ty.base ≡ true → x ≤ more) → Holds (grown c x b) (count + 1) more
 holds-grown c count limit more x b holds wider fits within = record {
-  cells = omega (arith, length-append c.cells (kept (width_of c.ty.base) x), length-kept (width_of c.ty.base) x, holds.cells, step count (bytes_in (width_of c.ty.base)));
+  cells = omega (arith, length-append c.cells (kept (cell_width c.ty.base) x), length-kept (cell_width c.ty.base) x, holds.cells, step count (width_bytes (cell_width c.ty.base)));
   nulls = nulls-more c.ty.nullable c.nulls b count holds.nulls;
-  ends = λ i below text. elim (cases_lt i count) as (λ _. nat_at (width_of c.ty.base) (c.cells ++ kept (width_of c.ty.base) x) i ≤ more) [
+  ends = λ i below text. elim (cases_lt i count) as (λ _. nat_at (cell_width c.ty.base) (c.cells ++ kept (cell_width c.ty.base) x) i ≤ more) [
     | inl old ↦ subst (λ n. n ≤ more) (sym (number-same c count limit i x holds old)) (omega (arith, holds.ends i old text, wider))
     | inr new ↦ let here : i ≡ count = omega arith in
-        subst (λ n. n ≤ more) (sym (ap (λ k. nat_at (width_of c.ty.base) (c.cells ++ kept (width_of c.ty.base) x) k) here ∙ nat_at-last (width_of c.ty.base) c.cells count x holds.cells fits)) (within text)
+        subst (λ n. n ≤ more) (sym (ap (λ k. nat_at (cell_width c.ty.base) (c.cells ++ kept (cell_width c.ty.base) x) k) here ∙ nat_at-last (cell_width c.ty.base) c.cells count x holds.cells fits)) (within text)
   ];
 }
 

@@ -8,7 +8,7 @@ use Rattle.std.proofs.lemmas.Option.{none-some, slice_get_past}
 use Rattle.dict_value.specs.declared.value.ColType.{ColType}
 use Rattle.dict_value.specs.declared.value.Value.{Value}
 use Rattle.packed_rows.specs.declared.column.Column.{Column}
-use Rattle.packed_rows.specs.Widths.{kept, width_of}
+use Rattle.packed_rows.specs.Widths.{kept, cell_width}
 use Rattle.packed_rows.specs.Columns.{grow_at, grown, is_null, number_of, text_of_value}
 use Rattle.packed_rows.specs.Packs.{AreColumnsOf, IsColumnOf, cell_bytes, column_bytes, column_nulls, null_bits, text_of_rows, texts_of}
 
@@ -110,7 +110,7 @@ own-column c k x b rows row v here x_is b_is is =
     let bits : column_nulls k (rows ++ row ∷ []) ≡ column_nulls k rows =
     nulls-more k rows row ∙ (ap (λ o. column_nulls k rows ++ null_bits o) none ∙ append-nil (column_nulls k rows)) in
     record {
-      cells = (λ j. before j ++ kept (width_of t) (x_is j))
+      cells = (λ j. before j ++ kept (cell_width t) (x_is j))
           ∙ ((λ j. column_bytes t k 0 rows ++ cell_bytes t (sym at j) (sym last j)) ∙ sym (bytes-more t k 0 rows (row ++ v ∷ [])));
       nulls = own-nulls c.ty.nullable c.nulls (column_nulls k rows) b (is.nulls ∙ ap (λ (bs : List Bool). if c.ty.nullable then bs else []) bits)
           ∙ ap (λ (bs : List Bool). if c.ty.nullable then bs else [])
@@ -166,7 +166,7 @@ known (v ∷ row) zero below = (v, refl)
 known (v ∷ row) (suc k) below = known row k (omega arith)
 
 pub open-cells : (c : Column) (k : ℕ) (rows : List (List Value)) (row : List Value) → k < length row → IsColumnOf c k (rows ++ row ∷ [])
-    → (x : ℕ) × (c.cells ≡ column_bytes c.ty.base k 0 rows ++ kept (width_of c.ty.base) x)
+    → (x : ℕ) × (c.cells ≡ column_bytes c.ty.base k 0 rows ++ kept (cell_width c.ty.base) x)
 open-cells c k rows row below is =
     let value = known row k below in
     let end = end_after k 0 rows row in

@@ -16,7 +16,7 @@ use Rattle.dict_value.specs.declared.value.Value.TheVariants.{Null, S}
 use Rattle.std.proofs.Math.Nat.{mul-le-mul_right}
 use Rattle.dict_value.specs.Values.{FitsColumn}
 use Rattle.packed_rows.specs.declared.column.Column.{Column}
-use Rattle.packed_rows.specs.Widths.{bytes_in, limit_of, nat_at, width_of}
+use Rattle.packed_rows.specs.Widths.{width_bytes, limit_of, nat_at, cell_width}
 use Rattle.packed_rows.specs.Columns.{AllEndWithin, Filled, HaveCells, Holds, IsHeld, RowList, between, null_in, number_value, value_from, cell_at, cell_of, end_from, end_in, grow_at, grown, is_null, is_text, number_of, row_end, row_in, rows_in, start_of, text_of_value, value_in}
 use Rattle.packed_rows.specs.Packs.{AreColumnsOf, ArePacksOf, Building, IsColumnOf, Packs, StandFor, building, column_bytes, column_nulls, column_size, open_in, packs_size, stored_size, text_of_rows, texts_of, types_of}
 use Rattle.packed_rows.proofs.Packed.{columns-begun, columns-ended, columns-grown, get-front, get-last, text-more, texts-more}
@@ -109,11 +109,11 @@ filled-wider (c ∷ cs) n zero limit more filled wider = (holds-wider c n limit 
 filled-wider (c ∷ cs) n (suc place) limit more filled wider = (holds-wider c (n + 1) limit more filled.0 wider, filled-wider cs n place limit more filled.1 wider)
 
 grow-filled : (cs : List Column) (n place x limit more : ℕ) (b : Bool) (c : Column) → Filled cs n place limit → slice_get cs place ≡ Some c → limit ≤ more
-    → x < limit_of (width_of c.ty.base) → (is_text c.ty.base ≡ true → x ≤ more) → Filled (grow_at cs place x b) n (suc place) more
+    → x < limit_of (cell_width c.ty.base) → (is_text c.ty.base ≡ true → x ≤ more) → Filled (grow_at cs place x b) n (suc place) more
 grow-filled [] n place x limit more b c filled here wider fits within = absurd (none-some c here)
 grow-filled (c ∷ cs) n zero x limit more b d filled here wider fits within =
     let is = sym (column-is c d here) in (
-      holds-grown c n limit more x b filled.0 wider (subst (λ (e : Column). x < limit_of (width_of e.ty.base)) is fits) (subst (λ (e : Column). is_text e.ty.base ≡ true → x ≤ more) is within),
+      holds-grown c n limit more x b filled.0 wider (subst (λ (e : Column). x < limit_of (cell_width e.ty.base)) is fits) (subst (λ (e : Column). is_text e.ty.base ≡ true → x ≤ more) is within),
       filled-wider cs n zero limit more filled.1 wider,
     )
 grow-filled (c ∷ cs) n (suc place) x limit more b d filled here wider fits within =
@@ -319,8 +319,8 @@ steady-type t = inr (λ s n. refl)
 steady-column : (c : Column) → ((i s r : ℕ) → end_in c i s ≡ end_in c i r) ⊎ ((i s : ℕ) → end_in c i s ≡ s)
 unfolding end_in
 steady-column c = elim (steady-type c.ty.base) as (λ _. ((i s r : ℕ) → end_in c i s ≡ end_in c i r) ⊎ ((i s : ℕ) → end_in c i s ≡ s)) [
-  | inl one ↦ inl (λ i s r. one s r (nat_at (width_of c.ty.base) c.cells i))
-  | inr own ↦ inr (λ i s. own s (nat_at (width_of c.ty.base) c.cells i))
+  | inl one ↦ inl (λ i s r. one s r (nat_at (cell_width c.ty.base) c.cells i))
+  | inr own ↦ inr (λ i s. own s (nat_at (cell_width c.ty.base) c.cells i))
 ]
 
 steady : (cs : List Column) → ((i s r : ℕ) → row_end cs i s ≡ row_end cs i r) ⊎ ((i s : ℕ) → row_end cs i s ≡ s)
@@ -391,7 +391,7 @@ zero-mul w = omega arith
 pub fresh-filled : (cs : List Column) (c : Column) → Filled cs 0 0 0 → c.cells ≡ [] → c.nulls ≡ [] → Filled (cs ++ c ∷ []) 0 0 0
 fresh-filled [] c filled cells nulls = (
   record {
-    cells = omega (arith, ap (λ (t : List ℕ). length t) cells, zero-mul (bytes_in (width_of c.ty.base)));
+    cells = omega (arith, ap (λ (t : List ℕ). length t) cells, zero-mul (width_bytes (cell_width c.ty.base)));
     nulls = λ _. ap (λ (t : List Bool). length t) nulls;
     ends = λ i below text. absurd (omega arith);
   },
@@ -430,7 +430,7 @@ pub fresh-types : (cs : List Column) (c : Column) (ts : List AttrType) (i : ℕ)
 fresh-types cs c ts i is below at = map-append (λ (c : Column). c.ty) cs (c ∷ []) ∙ ((λ j. is j ++ at j ∷ []) ∙ sym (take_more ts i c.ty below))
 
 pub number-limit : (cs : List Column) (text : List ℕ) (n place end : ℕ) (v : Value) (c : Column) → Packs cs text n place → slice_get cs place ≡ Some c → FitsColumn c.ty v
-    → end < 2 ^ 64 → number_of c.ty.base end v < limit_of (width_of c.ty.base)
+    → end < 2 ^ 64 → number_of c.ty.base end v < limit_of (cell_width c.ty.base)
 number-limit cs text n place end v c packs here fits below =
     number-fits c.ty.base v c.ty.nullable end fits below
 
@@ -438,21 +438,21 @@ number-limit cs text n place end v c packs here fits below =
 
 pub value-null : (c : Column) (text : List ℕ) (i s : ℕ) → null_in c i ≡ true → value_in c text i s ≡ Null
 unfolding value_in
-value-null c text i s is = ap (λ b. value_from c.ty.base b s (nat_at (width_of c.ty.base) c.cells i) text) is ∙ from-null c.ty.base s (nat_at (width_of c.ty.base) c.cells i) text
+value-null c text i s is = ap (λ b. value_from c.ty.base b s (nat_at (cell_width c.ty.base) c.cells i) text) is ∙ from-null c.ty.base s (nat_at (cell_width c.ty.base) c.cells i) text
 
-pub value-text-is : (c : Column) (text : List ℕ) (i s n : ℕ) → null_in c i ≡ false → c.ty.base ≡ type.Str → n ≡ nat_at (width_of c.ty.base) c.cells i → S (between s n text) ≡ value_in c text i s
+pub value-text-is : (c : Column) (text : List ℕ) (i s n : ℕ) → null_in c i ≡ false → c.ty.base ≡ type.Str → n ≡ nat_at (cell_width c.ty.base) c.cells i → S (between s n text) ≡ value_in c text i s
 unfolding value_in
 value-text-is c text i s n is str at =
-    sym ((λ j. value_from c.ty.base (is j) s (nat_at (width_of c.ty.base) c.cells i) text) ∙ ((λ j. value_from (str j) false s (nat_at (width_of c.ty.base) c.cells i) text) ∙ ap (λ m. S (between s m text)) (sym at)))
+    sym ((λ j. value_from c.ty.base (is j) s (nat_at (cell_width c.ty.base) c.cells i) text) ∙ ((λ j. value_from (str j) false s (nat_at (cell_width c.ty.base) c.cells i) text) ∙ ap (λ m. S (between s m text)) (sym at)))
 
 from-number : (t : ColType) (s n : ℕ) (text : List ℕ) → t ≢ type.Str → value_from t false s n text ≡ number_value t n
 from-number type.Str s n text not = absurd (not refl)
 from-number t s n text not = refl
 
-pub value-number-is : (c : Column) (text : List ℕ) (i s n : ℕ) → null_in c i ≡ false → c.ty.base ≢ type.Str → n ≡ nat_at (width_of c.ty.base) c.cells i → number_value c.ty.base n ≡ value_in c text i s
+pub value-number-is : (c : Column) (text : List ℕ) (i s n : ℕ) → null_in c i ≡ false → c.ty.base ≢ type.Str → n ≡ nat_at (cell_width c.ty.base) c.cells i → number_value c.ty.base n ≡ value_in c text i s
 unfolding value_in
 value-number-is c text i s n is not at =
-    sym ((λ j. value_from c.ty.base (is j) s (nat_at (width_of c.ty.base) c.cells i) text) ∙ (from-number c.ty.base s (nat_at (width_of c.ty.base) c.cells i) text not ∙ ap (λ m. number_value c.ty.base m) (sym at)))
+    sym ((λ j. value_from c.ty.base (is j) s (nat_at (cell_width c.ty.base) c.cells i) text) ∙ (from-number c.ty.base s (nat_at (cell_width c.ty.base) c.cells i) text not ∙ ap (λ m. number_value c.ty.base m) (sym at)))
 
 start-unread-from : (t : ColType) (b : Bool) (s r n : ℕ) (text : List ℕ) → t ≢ type.Str → value_from t b s n text ≡ value_from t b r n text
 start-unread-from t true s r n text not = from-null t s n text ∙ sym (from-null t r n text)
@@ -460,11 +460,11 @@ start-unread-from t false s r n text not = from-number t s n text not ∙ sym (f
 
 start-unread : (c : Column) (text : List ℕ) (i s r : ℕ) → c.ty.base ≢ type.Str → value_in c text i s ≡ value_in c text i r
 unfolding value_in
-start-unread c text i s r not = start-unread-from c.ty.base (null_in c i) s r (nat_at (width_of c.ty.base) c.cells i) text not
+start-unread c text i s r not = start-unread-from c.ty.base (null_in c i) s r (nat_at (cell_width c.ty.base) c.cells i) text not
 
 pub have-fewer : (cs : List Column) (m k : ℕ) → HaveCells cs m → k ≤ m → HaveCells cs k
 have-fewer [] m k have fewer = tt
-have-fewer (c ∷ cs) m k have fewer = (omega (arith, have.0, mul-le-mul_right (bytes_in (width_of c.ty.base)) fewer), have-fewer cs m k have.1 fewer)
+have-fewer (c ∷ cs) m k have fewer = (omega (arith, have.0, mul-le-mul_right (width_bytes (cell_width c.ty.base)) fewer), have-fewer cs m k have.1 fewer)
 
 pub have-take : (cs : List Column) (m k : ℕ) → HaveCells cs m → HaveCells (take k cs) m
 have-take [] m zero have = tt
@@ -472,9 +472,9 @@ have-take [] m (suc k) have = tt
 have-take (c ∷ cs) m zero have = tt
 have-take (c ∷ cs) m (suc k) have = (have.0, have-take cs m k have.1)
 
-pub have-at : (cs : List Column) (m i : ℕ) (c : Column) → HaveCells cs m → slice_get cs i ≡ Some c → m * bytes_in (width_of c.ty.base) ≤ length c.cells
+pub have-at : (cs : List Column) (m i : ℕ) (c : Column) → HaveCells cs m → slice_get cs i ≡ Some c → m * width_bytes (cell_width c.ty.base) ≤ length c.cells
 have-at [] m i c have here = absurd (none-some c here)
-have-at (c ∷ cs) m zero d have here = subst (λ (e : Column). m * bytes_in (width_of e.ty.base) ≤ length e.cells) (column-is c d here) have.0
+have-at (c ∷ cs) m zero d have here = subst (λ (e : Column). m * width_bytes (cell_width e.ty.base) ≤ length e.cells) (column-is c d here) have.0
 have-at (c ∷ cs) m (suc i) d have here = have-at cs m i d have.1 here
 
 have-all : (cs : List Column) (n limit : ℕ) → Filled cs n zero limit → HaveCells cs n

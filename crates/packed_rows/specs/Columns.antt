@@ -1,12 +1,14 @@
 -- The list of rows that packed columns are.
-use Rattle.std.specs.Prelude.{◌≡◌, ◌<◌, ◌≤◌, ◌+◌, ◌-◌, ◌*◌, ◌∷◌, ◌++◌, ◌&&◌, [], if◌then◌else◌, Bool, true, false, ℕ, zero, suc, List, length, take, drop, Option, Some, None, slice_get, slice_index_or}
+use Rattle.std.specs.Prelude.{◌≡◌, ◌<◌, ◌≤◌, ◌+◌, ◌-◌, ◌*◌, ◌∷◌, ◌++◌, ◌&&◌, [], if◌then◌else◌, Bool, true, false}
+use Rattle.std.specs.Prelude.{ℕ, zero, suc, List, length, take, drop, Option, Some, None, slice_get}
+use Rattle.std.specs.Prelude.{slice_index_or}
 use Rattle.std.specs.Int.{Width, w8, w16, w32, w64, w128, cast_signed, cast_unsigned}
 use Rattle.dict_value.specs.declared.value.ColType.{ColType}
 use Rattle.dict_value.specs.declared.value.ColType.TheVariants as type
 use Rattle.dict_value.specs.declared.value.Value.{Value}
 use Rattle.dict_value.specs.declared.value.Value.TheVariants.{U, I, S, Day, Second, Id, V4, V6, Dec, Null}
 use Rattle.packed_rows.specs.declared.column.Column.{Column}
-use Rattle.packed_rows.specs.Widths.{bytes_in, nat_at, kept, width_of}
+use Rattle.packed_rows.specs.Widths.{width_bytes, nat_at, kept, cell_width}
 
 abbrev pub is_text : ColType → Bool
 is_text type.Str = true
@@ -40,7 +42,7 @@ value_from t false start n text = number_value t n
 
 -- the value at a row, given where its text starts
 unfoldable pub value_in : Column → List ℕ → ℕ → ℕ → Value
-value_in c text i start = value_from c.ty.base (null_in c i) start (nat_at (width_of c.ty.base) c.cells i) text
+value_in c text i start = value_from c.ty.base (null_in c i) start (nat_at (cell_width c.ty.base) c.cells i) text
 
 abbrev pub end_from : ColType → ℕ → ℕ → ℕ
 end_from type.Str start n = n
@@ -48,7 +50,7 @@ end_from t start n = start
 
 -- where its text ends
 unfoldable pub end_in : Column → ℕ → ℕ → ℕ
-end_in c i start = end_from c.ty.base start (nat_at (width_of c.ty.base) c.cells i)
+end_in c i start = end_from c.ty.base start (nat_at (cell_width c.ty.base) c.cells i)
 
 -- the values of a row, given where its first text starts
 abbrev pub row_in : List Column → List ℕ → ℕ → ℕ → List Value
@@ -73,11 +75,11 @@ rows_in cs text (suc n) = rows_in cs text n ++ row_in cs text n (start_of cs n) 
 -- the first texts of a column end within so many bytes
 abbrev pub EndWithin : Column → ℕ → ℕ → Type 0
 EndWithin c count limit =
-    (i : ℕ) → i < count → is_text c.ty.base ≡ true → nat_at (width_of c.ty.base) c.cells i ≤ limit
+    (i : ℕ) → i < count → is_text c.ty.base ≡ true → nat_at (cell_width c.ty.base) c.cells i ≤ limit
 
 -- the column has so many cells, and its texts end within so many bytes
 pub record Holds (c : Column) (count : ℕ) (limit : ℕ) : Type 0 where
-  pub cells : length c.cells ≡ count * bytes_in (width_of c.ty.base)
+  pub cells : length c.cells ≡ count * width_bytes (cell_width c.ty.base)
   pub nulls : c.ty.nullable ≡ true → length c.nulls ≡ count
   pub ends : EndWithin c count limit
 
@@ -104,7 +106,7 @@ cell_at rows place column = cell_of (slice_get rows place) column
 abbrev pub grown : Column → ℕ → Bool → Column
 grown c n null = record {
   ty = c.ty;
-  cells = c.cells ++ kept (width_of c.ty.base) n;
+  cells = c.cells ++ kept (cell_width c.ty.base) n;
   nulls = if c.ty.nullable then c.nulls ++ null ∷ [] else c.nulls;
 }
 
@@ -150,7 +152,7 @@ RowList = List (List Value)
 -- each column has at least so many cells
 abbrev pub HaveCells : List Column → ℕ → Type 0
 HaveCells [] count = Unit {0}
-HaveCells (c ∷ cs) count = (count * bytes_in (width_of c.ty.base) ≤ length c.cells) × HaveCells cs count
+HaveCells (c ∷ cs) count = (count * width_bytes (cell_width c.ty.base) ≤ length c.cells) × HaveCells cs count
 
 -- the column's cell at a place can be read
 abbrev pub IsHeld : Column → ℕ → ℕ → Type 0
@@ -160,7 +162,7 @@ IsHeld c place limit = (count : ℕ) × Holds c count limit × (place < count)
 abbrev pub cut : ℕ → Column → Column
 cut count c = record {
   ty = c.ty;
-  cells = take (count * bytes_in (width_of c.ty.base)) c.cells;
+  cells = take (count * width_bytes (cell_width c.ty.base)) c.cells;
   nulls = if c.ty.nullable then take count c.nulls else c.nulls;
 }
 
@@ -172,7 +174,7 @@ cut_front count (suc place) (c ∷ cs) = cut count c ∷ cut_front count place c
 
 -- the column has at least so many cells
 pub record HasCells (c : Column) (count : ℕ) : Type 0 where
-  pub cells : count * bytes_in (width_of c.ty.base) ≤ length c.cells
+  pub cells : count * width_bytes (cell_width c.ty.base) ≤ length c.cells
   pub nulls : c.ty.nullable ≡ true → count ≤ length c.nulls
 
 -- the first columns have

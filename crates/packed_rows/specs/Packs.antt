@@ -1,12 +1,14 @@
 -- That columns and a text are the packs of rows, and what a builder of them is seen as.
-use Rattle.std.specs.Prelude.{◌≡◌, ◌≤◌, ◌+◌, ◌*◌, ◌/◌, ◌∷◌, ◌++◌, [], if◌then◌else◌, Bool, ℕ, suc, List, length, take, map, sum_by, Option, Some, None, slice_get}
+use Rattle.std.specs.Prelude.{◌≡◌, ◌≤◌, ◌+◌, ◌*◌, ◌/◌, ◌∷◌, ◌++◌, [], if◌then◌else◌, Bool, ℕ, suc, List, length}
+use Rattle.std.specs.Prelude.{take, map, sum_by, Option, Some, None, slice_get}
 use Rattle.std.specs.List.{flat_map}
 use Rattle.dict_value.specs.declared.value.AttrType.{AttrType}
 use Rattle.dict_value.specs.declared.value.ColType.{ColType}
 use Rattle.dict_value.specs.declared.value.Value.{Value}
 use Rattle.packed_rows.specs.declared.column.Column.{Column}
-use Rattle.packed_rows.specs.Columns.{AllEndWithin, Filled, is_null, number_of, row_end, row_in, rows_in, start_of, text_of_value}
-use Rattle.packed_rows.specs.Widths.{bytes_in, kept, width_of}
+use Rattle.packed_rows.specs.Columns.{AllEndWithin, Filled, is_null, number_of, row_end, row_in, rows_in, start_of}
+use Rattle.packed_rows.specs.Columns.{text_of_value}
+use Rattle.packed_rows.specs.Widths.{width_bytes, kept, cell_width}
 
 -- the texts of some values, one after another
 abbrev pub texts_of : List Value → List ℕ
@@ -19,7 +21,7 @@ text_of_rows rows = flat_map texts_of rows
 -- the bytes that are kept of a value, given where its text ends; none where a row has none yet
 abbrev pub cell_bytes : ColType → ℕ → Option Value → List ℕ
 cell_bytes t end None = []
-cell_bytes t end (Some v) = kept (width_of t) (number_of t end v)
+cell_bytes t end (Some v) = kept (cell_width t) (number_of t end v)
 
 -- the bytes of the column at a place, row by row, given where the text of the first row starts
 abbrev pub column_bytes : ColType → ℕ → ℕ → List (List Value) → List ℕ
@@ -83,7 +85,7 @@ building cs text rows place = record {
 
 -- the bytes that so many rows take in a column: those of its cells, and a bit for each where it may hold NULL
 abbrev pub column_size : ℕ → AttrType → ℕ
-column_size count t = count * bytes_in (width_of t.base) + (if t.nullable then (count + 7) / 8 else 0)
+column_size count t = count * width_bytes (cell_width t.base) + (if t.nullable then (count + 7) / 8 else 0)
 
 -- the bytes that rows of these types take
 abbrev pub stored_size : List AttrType → List (List Value) → ℕ

@@ -8,29 +8,29 @@ use Rattle.packed_rows.specs.declared.column.CellWidth.{CellWidth}
 use Rattle.packed_rows.specs.declared.column.CellWidth.TheVariants.{One, Two, Four, Eight, Sixteen}
 
 -- how wide the cells of a type are
-abbrev pub width_of : ColType → CellWidth
-width_of type.UInt8 = One
-width_of type.Int8 = One
-width_of type.UInt16 = Two
-width_of type.Int16 = Two
-width_of type.Date = Two
-width_of type.UInt32 = Four
-width_of type.Int32 = Four
-width_of type.DateTime = Four
-width_of type.Ipv4 = Four
-width_of type.UInt64 = Eight
-width_of type.Int64 = Eight
-width_of type.Str = Eight
-width_of type.Uuid = Sixteen
-width_of type.Ipv6 = Sixteen
-width_of (type.Decimal digits scale) = Sixteen
+abbrev pub cell_width : ColType → CellWidth
+cell_width type.UInt8 = One
+cell_width type.Int8 = One
+cell_width type.UInt16 = Two
+cell_width type.Int16 = Two
+cell_width type.Date = Two
+cell_width type.UInt32 = Four
+cell_width type.Int32 = Four
+cell_width type.DateTime = Four
+cell_width type.Ipv4 = Four
+cell_width type.UInt64 = Eight
+cell_width type.Int64 = Eight
+cell_width type.Str = Eight
+cell_width type.Uuid = Sixteen
+cell_width type.Ipv6 = Sixteen
+cell_width (type.Decimal digits scale) = Sixteen
 
-unfoldable pub bytes_in : CellWidth → ℕ
-bytes_in One = 1
-bytes_in Two = 2
-bytes_in Four = 4
-bytes_in Eight = 8
-bytes_in Sixteen = 16
+unfoldable pub width_bytes : CellWidth → ℕ
+width_bytes One = 1
+width_bytes Two = 2
+width_bytes Four = 4
+width_bytes Eight = 8
+width_bytes Sixteen = 16
 
 -- what a number of the width stays below
 unfoldable pub limit_of : CellWidth → ℕ

@@ -1,11 +1,13 @@
 // Rows that are built cell by cell.
-ghost use Rattle.std.specs.Prelude.{◌≡◌, ◌<◌, ◌≤◌, ◌+◌, ◌++◌, ◌∷◌, [], true, length, map, Some, slice_get, IfOk, OnOk, OnErr, FitsSigned};
+ghost use Rattle.std.specs.Prelude.{◌≡◌, ◌<◌, ◌≤◌, ◌+◌, ◌++◌, ◌∷◌, [], true, length, map, Some, slice_get, IfOk};
+ghost use Rattle.std.specs.Prelude.{OnOk, OnErr, FitsSigned};
 ghost use Rattle.std.specs.Int.{cast_unsigned};
 ghost use Rattle.dict_value.specs.declared.value.AttrType.{AttrType};
 ghost use Rattle.dict_value.specs.Values.{FitsColumn};
 ghost use Rattle.packed_rows.specs.Cells.{meaning};
-ghost use Rattle.packed_rows.specs.Columns.{FrontHasCells, HasCells, cut, cut_front, grown, is_null, is_text, number_of, signed_width, text_of_value};
-ghost use Rattle.packed_rows.specs.Widths.{limit_of, width_of};
+ghost use Rattle.packed_rows.specs.Columns.{FrontHasCells, HasCells, cut, cut_front, grown, is_null, is_text};
+ghost use Rattle.packed_rows.specs.Columns.{number_of, signed_width, text_of_value};
+ghost use Rattle.packed_rows.specs.Widths.{limit_of, cell_width};
 
 use crate::bits::Bits;
 use crate::cell::Cell;
@@ -136,7 +138,7 @@ fn push_text(text: &mut Bytes, cell: &Cell<'_>) -> Result<(), NoMemory>
 /// Adds a cell to a column.
 #[inline(always)]
 fn grow(column: &mut Column, n: u128, null: bool) -> Result<(), NoMemory>
-    requires fits { n < limit_of (width_of column.old.ty.base) }
+    requires fits { n < limit_of (cell_width column.old.ty.base) }
     requires few { column.old.ty.nullable ≡ true → length column.old.nulls < 4294967295 }
     ensures ok { OnOk result (column.new ≡ grown column.old n null) }
     ensures err { OnErr result (column.new ≡ column.old) }

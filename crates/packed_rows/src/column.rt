@@ -1,6 +1,6 @@
 // One column: a fixed number of bytes for each row.
 ghost use Rattle.std.specs.Prelude.{◌≡◌, ◌≤◌, ◌<◌, ◌+◌, ◌*◌, ◌^◌, ◌++◌, length, OnOk, OnErr};
-ghost use Rattle.packed_rows.specs.Widths.{bytes_in, eight_at, kept, limit_of, nat_at, width_of};
+ghost use Rattle.packed_rows.specs.Widths.{width_bytes, eight_at, kept, limit_of, nat_at, cell_width};
 
 use crate::bits::Bits;
 use dict_value::{AttrType, Bytes, ColType, NoMemory};
@@ -28,7 +28,7 @@ pub struct Column {
 /// How wide the cells of a type are.
 #[inline(always)]
 pub(crate) fn width_of(t: ColType) -> CellWidth
-    ensures { result ≡ width_of t }
+    ensures { result ≡ cell_width t }
 {
     match t {
         ColType::UInt8 | ColType::Int8 => CellWidth::One,
@@ -41,9 +41,9 @@ pub(crate) fn width_of(t: ColType) -> CellWidth
 
 /// How many bytes a cell of a width takes.
 #[inline]
-#[tactic(auto, unfolding(crate::specs::Widths::bytes_in))]
+#[tactic(auto, unfolding(crate::specs::Widths::width_bytes))]
 pub(crate) fn bytes_in(width: CellWidth) -> usize
-    ensures value { result ≡ bytes_in width }
+    ensures value { result ≡ width_bytes width }
     ensures small { result ≤ 16 }
 {
     match width {
@@ -110,9 +110,9 @@ fn eight_at(cells: &[u8], at: usize) -> u64
 
 /// The number at a place.
 #[inline]
-#[tactic(auto, unfolding(crate::specs::Widths::nat_at, crate::specs::Widths::bytes_in, crate::specs::Widths::limit_of))]
+#[tactic(auto, unfolding(crate::specs::Widths::nat_at, crate::specs::Widths::width_bytes, crate::specs::Widths::limit_of))]
 pub(crate) fn number_at(cells: &[u8], width: CellWidth, place: usize) -> u128
-    requires { (place + 1) * bytes_in width ≤ length cells.now }
+    requires { (place + 1) * width_bytes width ≤ length cells.now }
     ensures value { result ≡ nat_at width cells.now place }
     ensures fits { result < limit_of width }
 {

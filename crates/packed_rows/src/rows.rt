@@ -2,8 +2,9 @@
 ghost use Rattle.std.specs.Prelude.{◌≡◌, ◌<◌, ◌≤◌, ◌+◌, ◌*◌, true, length, min, take};
 ghost use Rattle.packed_rows.specs.Packs.{column_size, stored_size};
 ghost use Rattle.packed_rows.specs.Cells.{meaning};
-ghost use Rattle.packed_rows.specs.Columns.{HaveCells, IsHeld, between, is_text, number_value, end_in, null_in, row_end, start_of, value_in};
-ghost use Rattle.packed_rows.specs.Widths.{bytes_in, limit_of, nat_at, width_of};
+ghost use Rattle.packed_rows.specs.Columns.{HaveCells, IsHeld, between, is_text, number_value, end_in, null_in};
+ghost use Rattle.packed_rows.specs.Columns.{row_end, start_of, value_in};
+ghost use Rattle.packed_rows.specs.Widths.{width_bytes, limit_of, nat_at, cell_width};
 
 use crate::bits::bytes_for;
 use crate::cell::Cell;
@@ -142,7 +143,7 @@ fn piece(text: &[u8], start: u64, end: u64) -> &[u8]
 #[inline]
 #[tactic(auto, unfolding(crate::specs::Widths::limit_of))]
 fn number_cell<'a>(t: ColType, n: u128) -> Cell<'a>
-    requires { n < limit_of (width_of t) }
+    requires { n < limit_of (cell_width t) }
     ensures { meaning result ≡ number_value t n }
 {
     match t {
@@ -196,7 +197,7 @@ fn text_end(columns: &[Column], place: usize, start: u64) -> u64
 /// Where the text of a cell ends, given where it starts.
 #[tactic(auto, unfolding(crate::specs::Columns::end_in, crate::specs::Widths::limit_of))]
 fn cell_end(column: &Column, place: usize, start: u64) -> u64
-    requires { (place + 1) * bytes_in (width_of column.now.ty.base) ≤ length column.now.cells }
+    requires { (place + 1) * width_bytes (cell_width column.now.ty.base) ≤ length column.now.cells }
     ensures { result ≡ end_in column.now place start }
 {
     match column.ty.base {

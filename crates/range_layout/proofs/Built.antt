@@ -13,7 +13,7 @@ use Rattle.range_layout.specs.Points.{ArePointsOf}
 use Rattle.range_layout.specs.declared.ends.Ends.{Ends}
 use Rattle.range_layout.specs.declared.index.Span.{Span}
 use Rattle.range_layout.specs.declared.stretches.Stretch.{Stretch}
-use Rattle.range_layout.specs.steps.Filling.{AreSpansIn, number_at}
+use Rattle.range_layout.specs.steps.Filling.{AreSpansIn, border_number}
 use Rattle.range_layout.specs.steps.Painting.{TellsFirst}
 use Rattle.range_layout.proofs.Covering.{IsAxisOf, border-origin}
 use Rattle.range_layout.proofs.Numbering.{number-of, number-within}
@@ -37,7 +37,7 @@ same-spans points borders taken count spans new_spans edges new_edges winners ne
 
 module _ (keys : List (List Value)) (points numbers : List ℕ) (ends : List Ends) (stretches : List Stretch) (borders : List ℕ) (s : IsAxisOf points numbers ends stretches borders) (same : length ends ≡ length keys)
     (least : (row : ℕ) (key : List Value) → HasKeyAt keys key row → IsLeastPlace keys key (get_or numbers row 0)) where
-  pub numbers-within : (i : ℕ) → i < length borders → number_at borders i < length keys
+  pub numbers-within : (i : ℕ) → i < length borders → border_number borders i < length keys
   numbers-within i l =
       let o = border-origin points numbers ends stretches borders s i l in
       let w = o.1 in

@@ -3,7 +3,7 @@ use Rattle.std.specs.List.Sorted.{IsStrictlyIncreasing}
 use Rattle.std.specs.Prelude.{Contains}
 use Rattle.std.proofs.Common.{◌≡◌, ◌≢◌, ◌⊎◌, ℕ, zero, suc, ◌+◌, ◌-◌, ◌*◌, ◌<◌, ◌≤◌, List, [], ◌∷◌, length, get_or, inl, inr, refl, sym, subst, arith}
 use Rattle.std.proofs.lemmas.Bool.{cases_eq, cases_lt}
-use Rattle.range_layout.specs.Stretches.{IsBorder, end_of, stretch_at, start_of}
+use Rattle.range_layout.specs.Stretches.{IsBorder, end_of, stretch_at, stretch_start}
 use Rattle.range_layout.specs.declared.stretches.Stretch.{Stretch}
 use Rattle.range_layout.proofs.Rising.{rises-less}
 
@@ -73,7 +73,7 @@ few-places (y ∷ list) n f rises all = elim (find-place f y n) [
 -- both borders of each of some rows
 both-borders : List Stretch → List ℕ → List ℕ
 both-borders stretches [] = []
-both-borders stretches (row ∷ rows) = start_of (stretch_at stretches row) ∷ end_of (stretch_at stretches row) ∷ both-borders stretches rows
+both-borders stretches (row ∷ rows) = stretch_start (stretch_at stretches row) ∷ end_of (stretch_at stretches row) ∷ both-borders stretches rows
 
 length-borders : (stretches : List Stretch) (rows : List ℕ) → length (both-borders stretches rows) ≡ 2 * length rows
 unfolding both-borders

@@ -3,16 +3,16 @@ use Rattle.std.specs.List.Sorted.{IsStrictlyIncreasing}
 use Rattle.std.proofs.Common.{◌≡◌, ◌≢◌, ◌⊎◌, ℕ, ◌+◌, ◌-◌, ◌%◌, ◌^◌, ◌<◌, ◌≤◌, List, [], ◌∷◌, ◌++◌, length, length-append, get_or, inl, inr, refl, sym, ◌∙◌, ap, subst, arith}
 use Rattle.std.proofs.lemmas.Bool.{cases_eq, cases_lt}
 use Rattle.std.proofs.lemmas.List.{get_or-append_right, get_or_append_left}
-use Rattle.range_layout.specs.steps.Filling.{AddsEdge, AreBorders, AreEdgesOf, AreKeyBorders, AreSpansIn, IsLastBorder, IsSpanIn, Keeps, number_at, point_at, span_at}
+use Rattle.range_layout.specs.steps.Filling.{AddsEdge, AreBorders, AreEdgesOf, AreKeyBorders, AreSpansIn, IsLastBorder, IsSpanIn, KeepsFirst, border_number, point_at, span_at}
 use Rattle.range_layout.specs.declared.index.Span.{Span}
 use Rattle.range_layout.proofs.Nths.{nth-less}
 use Rattle.range_layout.proofs.Rising.{rises-less, rises-no_less}
 
 -- the list stays as it is, or has one number more
-pub keeps-same : (xs : List ℕ) → Keeps xs xs
+pub keeps-same : (xs : List ℕ) → KeepsFirst xs xs
 keeps-same xs = record { len = omega arith; same = λ i l. refl }
 
-pub keeps-push : (xs ys zs : List ℕ) (x : ℕ) → zs ≡ ys ++ x ∷ [] → Keeps xs ys → Keeps xs zs
+pub keeps-push : (xs ys zs : List ℕ) (x : ℕ) → zs ≡ ys ++ x ∷ [] → KeepsFirst xs ys → KeepsFirst xs zs
 keeps-push xs ys zs x is k =
     let n = ap length is in
     let m = length-append ys (x ∷ []) in
@@ -31,7 +31,7 @@ push-here ys zs x is = ap (λ (z : List ℕ). get_or z (length ys) 0) is ∙ get
     none = omega arith
 
 -- the points of a key's borders rise
-pub points-less : (points borders : List ℕ) (i j : ℕ) → AreBorders points borders → i < j → j < length borders → number_at borders i ≡ number_at borders j → point_at points borders i < point_at points borders j
+pub points-less : (points borders : List ℕ) (i j : ℕ) → AreBorders points borders → i < j → j < length borders → border_number borders i ≡ border_number borders j → point_at points borders i < point_at points borders j
 points-less points borders i j s l within same =
     let less = rises-less borders i j s.rises l within in
     nth-less points s.points_rise (get_or borders i 0 % 2 ^ 32) (get_or borders j 0 % 2 ^ 32) (omega (arith, less, same)) (s.within j within)
@@ -251,11 +251,11 @@ module _ (points borders taken : List ℕ) (from at : ℕ) (after : from ≤ at)
         (λ l z. some (omega (arith, l, len)) (subst (λ k. winner ≡ get_or winners (k - 1) 0) (sym len) (winner_is ∙ z))))
 
 -- what an edge more leaves
-pub added-keeps : (start point winner : ℕ) (edges winners new_edges new_winners old_edges old_winners : List ℕ) → AddsEdge start point winner edges winners new_edges new_winners → Keeps old_edges edges → Keeps old_winners winners
-    → length winners ≡ length edges → Keeps old_edges new_edges × Keeps old_winners new_winners × (length new_winners ≡ length new_edges)
+pub added-keeps : (start point winner : ℕ) (edges winners new_edges new_winners old_edges old_winners : List ℕ) → AddsEdge start point winner edges winners new_edges new_winners → KeepsFirst old_edges edges → KeepsFirst old_winners winners
+    → length winners ≡ length edges → KeepsFirst old_edges new_edges × KeepsFirst old_winners new_winners × (length new_winners ≡ length new_edges)
 added-keeps start point winner edges winners new_edges new_winners old_edges old_winners (inl (e, w, _, _)) ke kw same = (
-  subst (Keeps old_edges) (sym e) ke,
-  subst (Keeps old_winners) (sym w) kw,
+  subst (KeepsFirst old_edges) (sym e) ke,
+  subst (KeepsFirst old_winners) (sym w) kw,
   ap length w ∙ (same ∙ sym (ap length e)),
 )
 added-keeps start point winner edges winners new_edges new_winners old_edges old_winners (inr (e, w, _, _)) ke kw same =
@@ -267,17 +267,17 @@ added-keeps start point winner edges winners new_edges new_winners old_edges old
 
 -- ---- the borders of a key
 
-numbers-no_less : (borders : List ℕ) → IsStrictlyIncreasing borders → (i j : ℕ) → i ≤ j → j < length borders → number_at borders i ≤ number_at borders j
+numbers-no_less : (borders : List ℕ) → IsStrictlyIncreasing borders → (i j : ℕ) → i ≤ j → j < length borders → border_number borders i ≤ border_number borders j
 numbers-no_less borders r i j h l = let u = rises-no_less borders r i j h l in omega (arith, u)
 
-pub key-borders : (borders : List ℕ) (number from at : ℕ) → IsStrictlyIncreasing borders → ((i : ℕ) → i < from → number_at borders i < number) → ((i : ℕ) → from ≤ i → i < length borders → number ≤ number_at borders i) → from ≤ at → at ≤ length borders
-    → ((i : ℕ) → from ≤ i → i < at → number_at borders i ≡ number) → (at < length borders → number_at borders at ≢ number) → AreKeyBorders borders number from at × ((i : ℕ) → at ≤ i → i < length borders → number + 1 ≤ number_at borders i)
+pub key-borders : (borders : List ℕ) (number from at : ℕ) → IsStrictlyIncreasing borders → ((i : ℕ) → i < from → border_number borders i < number) → ((i : ℕ) → from ≤ i → i < length borders → number ≤ border_number borders i) → from ≤ at → at ≤ length borders
+    → ((i : ℕ) → from ≤ i → i < at → border_number borders i ≡ number) → (at < length borders → border_number borders at ≢ number) → AreKeyBorders borders number from at × ((i : ℕ) → at ≤ i → i < length borders → number + 1 ≤ border_number borders i)
 key-borders borders number from at r before behind order within own stop =
-    let past : (i : ℕ) → at ≤ i → i < length borders → number + 1 ≤ number_at borders i = λ i h l.
+    let past : (i : ℕ) → at ≤ i → i < length borders → number + 1 ≤ border_number borders i = λ i h l.
     let b = behind at order (omega (arith, h, l)) in
     let s = stop (omega (arith, h, l)) in
     let u = numbers-no_less borders r at i h l in
-    let more : number < number_at borders at = elim (cases_eq (number_at borders at) number) [
+    let more : number < border_number borders at = elim (cases_eq (border_number borders at) number) [
       | inl e ↦ absurd (s e)
       | inr ne ↦ omega (arith, b, ne)
     ] in
@@ -314,7 +314,7 @@ span-here spans span =
     none = omega arith
 
 pub spans-more : (points borders taken : List ℕ) (count : ℕ) (spans new_spans : List Span) (edges winners new_edges new_winners : List ℕ) (from to : ℕ) (span : Span) → AreSpansIn points borders taken count spans edges winners
-    → Keeps edges new_edges → Keeps winners new_winners → length new_winners ≡ length new_edges → AreKeyBorders borders count from to → AreEdgesOf points borders taken from to new_edges new_winners (length edges) (length new_edges)
+    → KeepsFirst edges new_edges → KeepsFirst winners new_winners → length new_winners ≡ length new_edges → AreKeyBorders borders count from to → AreEdgesOf points borders taken from to new_edges new_winners (length edges) (length new_edges)
     → span.start ≡ length edges → span.end ≡ length new_edges → new_spans ≡ spans ++ span ∷ [] → AreSpansIn points borders taken (count + 1) new_spans new_edges new_winners
 spans-more points borders taken count spans new_spans edges winners new_edges new_winners from to span s ke kw same key are start end is =
     let n = ap length is in

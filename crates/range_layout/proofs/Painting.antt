@@ -2,7 +2,7 @@
 use Rattle.std.specs.List.Sorted.{IsStrictlyIncreasing}
 use Rattle.std.proofs.Common.{◌≡◌, ◌≢◌, ◌⊎◌, ℕ, ◌+◌, ◌<◌, ◌≤◌, List, length, get_or, inl, inr, refl, sym, ◌∙◌, subst, arith}
 use Rattle.std.proofs.lemmas.Bool.{cases_eq, cases_lt}
-use Rattle.range_layout.specs.Stretches.{Covers, end_of, stretch_at, start_of}
+use Rattle.range_layout.specs.Stretches.{Covers, end_of, stretch_at, stretch_start}
 use Rattle.range_layout.specs.declared.stretches.Stretch.{Stretch}
 use Rattle.range_layout.specs.steps.Painting.{ArePainted, IsOnePainted, IsPainted, IsPaintedTo, TellsFirst, row_at}
 use Rattle.range_layout.proofs.Rising.{rises-less, rises-no_less}
@@ -58,7 +58,7 @@ module _ (borders : List ℕ) (stretch : Stretch) (row start : ℕ) (rises : IsS
             one.others i ne ∙ p.others i (elim outer [ inl before ↦ inl before | inr behind ↦ inr (omega (arith, behind, l)) ]);
       }
 
-  pub painted-all : (at : ℕ) (new : List ℕ) → start < length borders → get_or borders start 0 ≡ start_of stretch → (at < length borders → end_of stretch ≤ get_or borders at 0) → IsPaintedTo borders stretch row start at old new
+  pub painted-all : (at : ℕ) (new : List ℕ) → start < length borders → get_or borders start 0 ≡ stretch_start stretch → (at < length borders → end_of stretch ≤ get_or borders at 0) → IsPaintedTo borders stretch row start at old new
       → IsPainted borders stretch row old new
   painted-all at new within is stop p = record {
     len = p.len;
@@ -89,8 +89,8 @@ module _ (borders : List ℕ) (stretch : Stretch) (row start : ℕ) (rises : IsS
 
 -- a rank more
 pub tells-more : (stretches : List Stretch) (ranks : List ℕ) (count border old new : ℕ) → row_at ranks count < length stretches → TellsFirst stretches ranks count border old → (old ≢ 0 → new ≡ old)
-    → (old ≡ 0 → start_of (stretch_at stretches (row_at ranks count)) ≤ border → border < end_of (stretch_at stretches (row_at ranks count)) → new ≡ row_at ranks count + 1)
-    → (old ≡ 0 → (border < start_of (stretch_at stretches (row_at ranks count))) ⊎ (end_of (stretch_at stretches (row_at ranks count)) ≤ border) → new ≡ 0) → TellsFirst stretches ranks (count + 1) border new
+    → (old ≡ 0 → stretch_start (stretch_at stretches (row_at ranks count)) ≤ border → border < end_of (stretch_at stretches (row_at ranks count)) → new ≡ row_at ranks count + 1)
+    → (old ≡ 0 → (border < stretch_start (stretch_at stretches (row_at ranks count))) ⊎ (end_of (stretch_at stretches (row_at ranks count)) ≤ border) → new ≡ 0) → TellsFirst stretches ranks (count + 1) border new
 tells-more stretches ranks count border old new within (inr (i, less, is, here, first)) kept painted other =
     let same : new ≡ old = kept (omega (arith, is)) in
     inr (i, omega (arith, less), same ∙ is, here, first)
@@ -103,7 +103,7 @@ tells-more stretches ranks count border old new within (inl (zero, none)) kept p
           let e : i ≡ count = omega (arith, most, l) in
           last (subst (λ k. Covers stretches (row_at ranks k) border) e covers)
     ] in
-    elim (cases_lt border (start_of stretch)) [
+    elim (cases_lt border (stretch_start stretch)) [
       | inl before ↦ inl (other zero (inl before), more (λ covers. let u = covers.1 in omega (arith, u, before)))
       | inr from ↦ elim (cases_lt border (end_of stretch)) [
         | inl to ↦ inr (count, omega arith, painted zero from to, (within, from, to), none)

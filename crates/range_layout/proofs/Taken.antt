@@ -11,7 +11,7 @@ use Rattle.dict_value.specs.declared.value.Value.{Value}
 use Rattle.range_layout.specs.FindByRange.{FindsByRange, HasRangeAt, HoldsPoint, Precedes}
 use Rattle.range_layout.specs.Kept.{IsSpanOf, TellsIn, row_told}
 use Rattle.range_layout.specs.Stretches.{AreRanksOf, Covers, stretch_at, rank_of}
-use Rattle.range_layout.specs.Points.{IsNumber, point_of, range_at}
+use Rattle.range_layout.specs.Points.{IsNumber, point_of, ends_of_row}
 use Rattle.range_layout.specs.declared.ends.End.TheVariants.{Free}
 use Rattle.range_layout.specs.declared.ends.Ends.{Ends}
 use Rattle.range_layout.specs.declared.index.Span.{Span}
@@ -34,25 +34,25 @@ rank-row Max range stretch row l = omega (arith, l)
 
 module _ (keys : List (List Value)) (points numbers : List ℕ) (ends : List Ends) (stretches : List Stretch) (borders ranks : List ℕ) (strategy : Strategy) (s : IsAxisOf points numbers ends stretches borders)
     (r : AreRanksOf strategy ends stretches ranks) (same : length ends ≡ length keys) (rows_few : length ends < 2 ^ 32) where
-  range-here : (place : ℕ) (range : Ends) → slice_get ends place ≡ Some range → range_at ends place ≡ range
+  range-here : (place : ℕ) (range : Ends) → slice_get ends place ≡ Some range → ends_of_row ends place ≡ range
   range-here place range is = get_or_from_slice_get ends place range (record { low = Free; high = Free }) is
 
   -- where the rank of a row stands
-  rank-place : (row : ℕ) → row < length stretches → (i : ℕ) × (i < length ranks) × (get_or ranks i 0 ≡ rank_of strategy (range_at ends row) (stretch_at stretches row) row) × (row_at ranks i ≡ row)
+  rank-place : (row : ℕ) → row < length stretches → (i : ℕ) × (i < length ranks) × (get_or ranks i 0 ≡ rank_of strategy (ends_of_row ends row) (stretch_at stretches row) row) × (row_at ranks i ≡ row)
   rank-place row l =
       let len = s.stretches_are.len in
-      let g = place-of ranks (rank_of strategy (range_at ends row) (stretch_at stretches row) row) (r.each row l) in
-      let m = rank-row strategy (range_at ends row) (stretch_at stretches row) row (omega (arith, l, len, rows_few)) in
+      let g = place-of ranks (rank_of strategy (ends_of_row ends row) (stretch_at stretches row) row) (r.each row l) in
+      let m = rank-row strategy (ends_of_row ends row) (stretch_at stretches row) row (omega (arith, l, len, rows_few)) in
       (g.0, g.1, g.2, ap (λ (n : ℕ). n % 2 ^ 32) g.2 ∙ m)
 
-  rank-at : (i : ℕ) → i < length ranks → get_or ranks i 0 ≡ rank_of strategy (range_at ends (row_at ranks i)) (stretch_at stretches (row_at ranks i)) (row_at ranks i)
+  rank-at : (i : ℕ) → i < length ranks → get_or ranks i 0 ≡ rank_of strategy (ends_of_row ends (row_at ranks i)) (stretch_at stretches (row_at ranks i)) (row_at ranks i)
   rank-at i l =
       let len = s.stretches_are.len in
       let o = r.origin (get_or ranks i 0) (i, l, get_or_default ranks i (get_or ranks i 0) 0 l) in
       let w = o.1 in
-      let m = rank-row strategy (range_at ends o.0) (stretch_at stretches o.0) o.0 (omega (arith, w, len, rows_few)) in
+      let m = rank-row strategy (ends_of_row ends o.0) (stretch_at stretches o.0) o.0 (omega (arith, w, len, rows_few)) in
       let e : row_at ranks i ≡ o.0 = ap (λ (n : ℕ). n % 2 ^ 32) o.2 ∙ m in
-      subst (λ k. get_or ranks i 0 ≡ rank_of strategy (range_at ends k) (stretch_at stretches k) k) (sym e) o.2
+      subst (λ k. get_or ranks i 0 ≡ rank_of strategy (ends_of_row ends k) (stretch_at stretches k) k) (sym e) o.2
 
   -- the rows of ranks are rows
   pub rank-within : (i : ℕ) → i < length ranks → row_at ranks i < length stretches
@@ -60,7 +60,7 @@ module _ (keys : List (List Value)) (points numbers : List ℕ) (ends : List End
       let len = s.stretches_are.len in
       let o = r.origin (get_or ranks i 0) (i, l, get_or_default ranks i (get_or ranks i 0) 0 l) in
       let w = o.1 in
-      let m = rank-row strategy (range_at ends o.0) (stretch_at stretches o.0) o.0 (omega (arith, w, len, rows_few)) in
+      let m = rank-row strategy (ends_of_row ends o.0) (stretch_at stretches o.0) o.0 (omega (arith, w, len, rows_few)) in
       let e : row_at ranks i ≡ o.0 = ap (λ (n : ℕ). n % 2 ^ 32) o.2 ∙ m in
       omega (arith, e, w)
 
@@ -94,10 +94,10 @@ module _ (keys : List (List Value)) (points numbers : List ℕ) (ends : List End
           let len = s.stretches_are.len in
           let own = number-covered points numbers ends stretches borders s number from to k row w point z i last covers in
           let has = n.own row (omega (arith, w, len, same)) own in
-          let here : slice_get ends row ≡ Some (range_at ends row) = slice_get-get_or ends row (record { low = Free; high = Free }) (omega (arith, w, len)) in
+          let here : slice_get ends row ≡ Some (ends_of_row ends row) = slice_get-get_or ends row (record { low = Free; high = Free }) (omega (arith, w, len)) in
           let e : winner ≡ suc row = omega (arith, is) in
           subst (λ q. FindsByRange keys ends strategy key point (row_told q)) (sym e) (record {
-            range = range_at ends row;
+            range = ends_of_row ends row;
             here = (has, here);
             holds = covers-from points numbers ends stretches borders s number from to k row w point z i last covers;
             first = λ other before other_has holds precedes.
@@ -107,9 +107,9 @@ module _ (keys : List (List Value)) (points numbers : List ℕ) (ends : List End
                 let theirs = p.2 in
                 let other_range = range-here other before other_has.1 in
                 let wo = row-of other other_has.0 in
-                let lower = rank-less points s.points_are.rises s.points_are.small strategy (range_at ends other) (range_at ends row) (get_or numbers other 0) (get_or numbers row 0) (stretch_at stretches other) (stretch_at stretches row)
+                let lower = rank-less points s.points_are.rises s.points_are.small strategy (ends_of_row ends other) (ends_of_row ends row) (get_or numbers other 0) (get_or numbers row 0) (stretch_at stretches other) (stretch_at stretches row)
                 other row s.few (omega (arith, wo, len, rows_few)) (omega (arith, w, len, rows_few)) (s.stretches_are.each other (omega (arith, wo, len))) (s.stretches_are.each row (omega (arith, w, len)))
-                (subst (λ (q : Ends). Precedes strategy q other (range_at ends row) row) (sym other_range) precedes) in
+                (subst (λ (q : Ends). Precedes strategy q other (ends_of_row ends row) row) (sym other_range) precedes) in
                 elim (cases_lt p.0 at) [
                   | inl earlier ↦ first p.0 earlier (subst (λ q. Covers stretches q (get_or borders i 0)) (sym p.3) c)
                   | inr most ↦

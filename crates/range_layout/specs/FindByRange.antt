@@ -50,8 +50,8 @@ abbrev pub HasRangeAt : List (List Value) → List Ends → List Value → ℕ �
 HasRangeAt keys ends key place range = HasKeyAt keys key place × (slice_get ends place ≡ Some range)
 
 -- of the rows with the key whose range holds the point, the one that no other precedes
-pub record IsTaken (keys : List (List Value)) (ends : List Ends) (strategy : Strategy) (key : List Value) (point : ℤ)
-    (place : ℕ) : Type 0 where
+pub record IsFirstHolding (keys : List (List Value)) (ends : List Ends) (strategy : Strategy) (key : List Value)
+    (point : ℤ) (place : ℕ) : Type 0 where
   pub range : Ends
   pub here : HasRangeAt keys ends key place range
   pub holds : HoldsPoint range point
@@ -62,7 +62,7 @@ pub record IsTaken (keys : List (List Value)) (ends : List Ends) (strategy : Str
 abbrev pub FindsByRange : List (List Value) → List Ends → Strategy → List Value → ℤ → Option ℕ → Type 0
 FindsByRange keys ends strategy key point None =
     (place : ℕ) (range : Ends) → HasRangeAt keys ends key place range → ¬ (HoldsPoint range point)
-FindsByRange keys ends strategy key point (Some place) = IsTaken keys ends strategy key point place
+FindsByRange keys ends strategy key point (Some place) = IsFirstHolding keys ends strategy key point place
 
 -- all rows with the key, rising; so its length says how many they are
 pub record AreRowsWith (keys : List (List Value)) (key : List Value) (rows : List ℕ) : Type 0 where

@@ -34,14 +34,14 @@ abbrev pub nth_point : List ℕ → ℕ → ℕ
 nth_point points place = slice_index_or points place (2 ^ 128)
 
 -- the range of a row
-abbrev pub range_at : List Ends → ℕ → Ends
-range_at ends row = slice_index_or ends row (record { low = Free; high = Free })
+abbrev pub ends_of_row : List Ends → ℕ → Ends
+ends_of_row ends row = slice_index_or ends row (record { low = Free; high = Free })
 
 -- the points at which ranges begin, and those behind their ends, rising
 pub record ArePointsOf (ends : List Ends) (points : List ℕ) : Type 0 where
   pub rises : IsStrictlyIncreasing points
   pub few : length points ≤ 2 * length ends
   pub small : (i : ℕ) → i < length points → slice_index points i < 2 ^ 128
-  pub low : (row : ℕ) → row < length ends → Contains points (low_point (range_at ends row).low)
-  pub past : (row : ℕ) → row < length ends → past_point (range_at ends row).high < 2 ^ 128
-      → Contains points (past_point (range_at ends row).high)
+  pub low : (row : ℕ) → row < length ends → Contains points (low_point (ends_of_row ends row).low)
+  pub past : (row : ℕ) → row < length ends → past_point (ends_of_row ends row).high < 2 ^ 128
+      → Contains points (past_point (ends_of_row ends row).high)

@@ -5,7 +5,7 @@ use Rattle.std.specs.Prelude.{◌⊎◌, ℕ, List, Contains, length, slice_inde
 use Rattle.std.specs.List.Sorted.{IsStrictlyIncreasing}
 use Rattle.dict_schema.specs.declared.definition.Strategy.{Strategy}
 use Rattle.dict_schema.specs.declared.definition.Strategy.TheVariants.{Min, Max}
-use Rattle.range_layout.specs.Points.{FitsEnd, low_point, nth_point, past_point, range_at}
+use Rattle.range_layout.specs.Points.{FitsEnd, low_point, nth_point, past_point, ends_of_row}
 use Rattle.range_layout.specs.declared.ends.End.{End}
 use Rattle.range_layout.specs.declared.ends.End.TheVariants.{Free, At}
 use Rattle.range_layout.specs.declared.ends.Ends.{Ends}
@@ -16,8 +16,8 @@ abbrev pub stretch_at : List Stretch → ℕ → Stretch
 stretch_at stretches row = slice_index_or stretches row (record { number = 0; low = 0; high = 0 })
 
 -- where a stretch begins
-abbrev pub start_of : Stretch → ℕ
-start_of stretch = stretch.number * 2 ^ 32 + stretch.low
+abbrev pub stretch_start : Stretch → ℕ
+stretch_start stretch = stretch.number * 2 ^ 32 + stretch.low
 
 -- the first border behind it
 abbrev pub end_of : Stretch → ℕ
@@ -37,18 +37,18 @@ pub record IsStretchOf (points : List ℕ) (number : ℕ) (range : Ends) (stretc
 pub record AreStretchesOf (points numbers : List ℕ) (ends : List Ends) (stretches : List Stretch) : Type 0 where
   pub len : length stretches ≡ length ends
   pub each : (row : ℕ) → row < length ends
-      → IsStretchOf points (slice_index numbers row) (range_at ends row) (stretch_at stretches row)
+      → IsStretchOf points (slice_index numbers row) (ends_of_row ends row) (stretch_at stretches row)
 
 -- the row's stretch has the border
 abbrev pub Covers : List Stretch → ℕ → ℕ → Type 0
 Covers stretches row border =
-    (row < length stretches) × (start_of (stretch_at stretches row) ≤ border)
+    (row < length stretches) × (stretch_start (stretch_at stretches row) ≤ border)
     × (border < end_of (stretch_at stretches row))
 
 -- the border is where the row's stretch begins, or where it ends, if that is one of so many points
 abbrev pub IsBorder : List Stretch → ℕ → ℕ → ℕ → Type 0
 IsBorder stretches count row border =
-    (border ≡ start_of (stretch_at stretches row))
+    (border ≡ stretch_start (stretch_at stretches row))
     ⊎ (((stretch_at stretches row).high < count) × (border ≡ end_of (stretch_at stretches row)))
 
 -- the borders at which stretches begin and end, rising
@@ -81,7 +81,7 @@ pub record AreRanksOf (strategy : Strategy) (ends : List Ends) (stretches : List
     (ranks : List ℕ) : Type 0 where
   pub rises : IsStrictlyIncreasing ranks
   pub each : (row : ℕ) → row < length stretches
-      → Contains ranks (rank_of strategy (range_at ends row) (stretch_at stretches row) row)
+      → Contains ranks (rank_of strategy (ends_of_row ends row) (stretch_at stretches row) row)
   pub origin : (rank : ℕ) → Contains ranks rank
       → (row : ℕ) × (row < length stretches)
-      × (rank ≡ rank_of strategy (range_at ends row) (stretch_at stretches row) row)
+      × (rank ≡ rank_of strategy (ends_of_row ends row) (stretch_at stretches row) row)

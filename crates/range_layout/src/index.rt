@@ -2,7 +2,7 @@
 ghost use Rattle.std.specs.Prelude.{◌≡◌, ◌≢◌, ◌+◌, ◌-◌, ◌*◌, ◌^◌, ◌<◌, ◌≤◌, ℕ, IfOk, OnOk, length, slice_index};
 ghost use Rattle.dict_value.specs.declared.value.TheConstants.{MOST_ROWS};
 ghost use Rattle.range_layout.specs.steps.Filling.{AddsEdge, AreBorders, AreEdgesOf};
-ghost use Rattle.range_layout.specs.steps.Filling.{AreKeyBorders, AreSpansIn, Keeps, number_at};
+ghost use Rattle.range_layout.specs.steps.Filling.{AreKeyBorders, AreSpansIn, KeepsFirst, border_number};
 
 use dict_value::{ListOf, NoMemory};
 use std::alloc::Global;
@@ -67,16 +67,16 @@ fn fill_span(
     requires borders { AreBorders points.now borders.now }
     requires taken { length taken.now ≡ length borders.now }
     requires from { from ≤ length borders.now }
-    requires before { (i : ℕ) → i < from → number_at borders.now i < number }
-    requires behind { (i : ℕ) → from ≤ i → i < length borders.now → number ≤ number_at borders.now i }
+    requires before { (i : ℕ) → i < from → border_number borders.now i < number }
+    requires behind { (i : ℕ) → from ≤ i → i < length borders.now → number ≤ border_number borders.now i }
     requires same { length winners.old ≡ length edges.old }
     ensures edges { IfOk result (λ to. AreEdgesOf points.now borders.now taken.now from to edges.new winners.new
         (length edges.old) (length edges.new)) }
     ensures borders { IfOk result (λ to. AreKeyBorders borders.now number from to) }
     ensures behind { IfOk result (λ to. (i : ℕ) → to ≤ i → i < length borders.now
-        → number + 1 ≤ number_at borders.now i) }
+        → number + 1 ≤ border_number borders.now i) }
     ensures same { IfOk result (λ _. length winners.new ≡ length edges.new) }
-    ensures kept { IfOk result (λ _. Keeps edges.old edges.new × Keeps winners.old winners.new) }
+    ensures kept { IfOk result (λ _. KeepsFirst edges.old edges.new × KeepsFirst winners.old winners.new) }
 {
     let start = edges.len();
     let mut at = from;
@@ -99,7 +99,7 @@ pub(crate) fn index_of(
     requires borders { AreBorders points.now borders.now }
     requires taken { length taken.now ≡ length borders.now }
     requires small { length borders.now < 2 ^ 32 }
-    requires numbers { (i : ℕ) → i < length borders.now → number_at borders.now i < count }
+    requires numbers { (i : ℕ) → i < length borders.now → border_number borders.now i < count }
     ensures { IfOk result (λ index. AreSpansIn points.now borders.now taken.now count
         index.spans index.edges index.winners) }
 {

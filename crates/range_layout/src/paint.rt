@@ -3,9 +3,9 @@
 ghost use Rattle.std.specs.Prelude.{◌≡◌, ◌≢◌, ◌+◌, ◌-◌, ◌<◌, ◌≤◌, ◌^◌, ℕ, List, Contains, IfOk, length, slice_index};
 ghost use Rattle.std.specs.List.Sorted.{IsStrictlyIncreasing};
 ghost use Rattle.dict_value.specs.declared.value.TheConstants.{MOST_ROWS};
-ghost use Rattle.range_layout.specs.Stretches.{AreBordersOf, start_of};
+ghost use Rattle.range_layout.specs.Stretches.{AreBordersOf, stretch_start};
 ghost use Rattle.range_layout.specs.steps.Painting.{ArePainted, IsOnePainted, IsPainted};
-ghost use Rattle.range_layout.specs.steps.Painting.{Leads, PassesPainted, TellsFirst, row_at};
+ghost use Rattle.range_layout.specs.steps.Painting.{LeadsOn, PassesPainted, TellsFirst, row_at};
 
 use crate::points::place_in;
 use crate::ranks::row_of;
@@ -15,9 +15,9 @@ use std::alloc::Global;
 
 /// The first place from one on that may be unpainted. The way to it is made shorter for later ones.
 fn skip(next: &mut Vec<u32>, from: usize) -> usize
-    requires leads { Leads next.old.items }
+    requires leads { LeadsOn next.old.items }
     requires from { from < length next.old.items }
-    ensures leads { Leads next.new.items }
+    ensures leads { LeadsOn next.new.items }
     ensures len { length next.new.items ≡ length next.old.items }
     ensures after { from ≤ result }
     ensures within { result < length next.new.items }
@@ -39,11 +39,11 @@ fn paint_one(winners: &mut Vec<u32>, next: &mut Vec<u32>, at: usize, row: usize)
     requires row { row < MOST_ROWS }
     requires small { length winners.old.items < 2 ^ 32 }
     requires len { length next.old.items ≡ length winners.old.items + 1 }
-    requires leads { Leads next.old.items }
+    requires leads { LeadsOn next.old.items }
     requires skips { PassesPainted winners.old.items next.old.items }
     ensures len { length next.new.items ≡ length next.old.items }
     ensures painted { IsOnePainted row at winners.old.items winners.new.items }
-    ensures leads { Leads next.new.items }
+    ensures leads { LeadsOn next.new.items }
     ensures skips { PassesPainted winners.new.items next.new.items }
 {
     if winners[at] == 0 {
@@ -61,16 +61,16 @@ fn paint(
     row: usize,
 )
     requires rises { IsStrictlyIncreasing borders.now }
-    requires start { Contains borders.now (start_of stretch) }
+    requires start { Contains borders.now (stretch_start stretch) }
     requires row { row < MOST_ROWS }
     requires small { length borders.now < 2 ^ 32 }
     requires same { length winners.old.items ≡ length borders.now }
     requires len { length next.old.items ≡ length borders.now + 1 }
-    requires leads { Leads next.old.items }
+    requires leads { LeadsOn next.old.items }
     requires skips { PassesPainted winners.old.items next.old.items }
     ensures len { length next.new.items ≡ length next.old.items }
     ensures painted { IsPainted borders.now stretch row winners.old.items winners.new.items }
-    ensures leads { Leads next.new.items }
+    ensures leads { LeadsOn next.new.items }
     ensures skips { PassesPainted winners.new.items next.new.items }
 {
     let end = end_of(stretch);
@@ -113,7 +113,7 @@ pub(crate) fn winners_of(
 fn next_of(alloc: Global, count: usize) -> Result<Vec<u32>, NoMemory>
     requires { count < 2 ^ 32 - 1 }
     ensures len { IfOk result (λ next. length next.items ≡ count + 1) }
-    ensures leads { IfOk result (λ next. Leads next.items) }
+    ensures leads { IfOk result (λ next. LeadsOn next.items) }
     ensures skips { IfOk result (λ next. (winners : List ℕ) → PassesPainted winners next.items) }
 {
     let Ok(mut next) = Vec::with_capacity(alloc, count + 1) else {

@@ -4,7 +4,7 @@ ghost use Rattle.std.specs.Prelude.{length, slice_index};
 ghost use Rattle.std.specs.Option.{option_to_list};
 ghost use Rattle.std.specs.List.Sorted.{IsStrictlyIncreasing};
 ghost use Rattle.dict_value.specs.declared.value.TheConstants.{MOST_ROWS};
-ghost use Rattle.range_layout.specs.Points.{ArePointsOf, low_point, past_point, range_at};
+ghost use Rattle.range_layout.specs.Points.{ArePointsOf, low_point, past_point, ends_of_row};
 
 use crate::ends::{Ends, low_point, past_point};
 use dict_value::NoMemory;
@@ -41,10 +41,10 @@ pub(crate) fn push_both(
 fn all_points(alloc: Global, ends: &[Ends]) -> Result<Vec<u128>, AllocError>
     requires { length ends.now ≤ MOST_ROWS }
     ensures low { IfOk result (λ all. (row : ℕ) → row < length ends.now
-        → Contains all.items (low_point (range_at ends.now row).low)) }
+        → Contains all.items (low_point (ends_of_row ends.now row).low)) }
     ensures past { IfOk result (λ all. (row : ℕ) → row < length ends.now
-        → past_point (range_at ends.now row).high < 2 ^ 128
-        → Contains all.items (past_point (range_at ends.now row).high)) }
+        → past_point (ends_of_row ends.now row).high < 2 ^ 128
+        → Contains all.items (past_point (ends_of_row ends.now row).high)) }
     ensures len { IfOk result (λ all. length all.items ≤ 2 * length ends.now) }
 {
     let mut all = Vec::with_capacity(alloc, 2 * ends.len())?;

@@ -2,7 +2,7 @@
 ghost use Rattle.std.specs.Prelude.{◌≡◌, ◌+◌, ◌*◌, ◌%◌, ◌^◌, ◌<◌, ◌≤◌, ℕ, IfOk, length};
 ghost use Rattle.dict_value.specs.declared.value.TheConstants.{MOST_ROWS};
 ghost use Rattle.range_layout.specs.Stretches.{AreStretchesOf, AreRanksOf, stretch_at, rank_of};
-ghost use Rattle.range_layout.specs.Points.{range_at};
+ghost use Rattle.range_layout.specs.Points.{ends_of_row};
 
 use crate::ends::{End, Ends};
 use crate::points::risen;

@@ -2,8 +2,8 @@
 ghost use Rattle.std.specs.Prelude.{◌≡◌, ◌+◌, ◌*◌, ◌^◌, ◌<◌, ◌≤◌, ℕ, Contains, IfOk, MatchOption, length, slice_index};
 ghost use Rattle.dict_value.specs.declared.value.TheConstants.{MOST_ROWS};
 ghost use Rattle.range_layout.specs.Stretches.{AreBordersOf, AreStretchesOf, IsBorder, IsStretchOf};
-ghost use Rattle.range_layout.specs.Stretches.{end_of, stretch_at, start_of};
-ghost use Rattle.range_layout.specs.Points.{ArePointsOf, low_point, nth_point, past_point, range_at};
+ghost use Rattle.range_layout.specs.Stretches.{end_of, stretch_at, stretch_start};
+ghost use Rattle.range_layout.specs.Points.{ArePointsOf, low_point, nth_point, past_point, ends_of_row};
 ghost use Rattle.std.specs.List.Sorted.{IsStrictlyIncreasing};
 
 use crate::ends::{Ends, low_point, past_point};
@@ -21,7 +21,7 @@ pub(crate) struct Stretch {
 
 /// Where a stretch begins.
 pub(crate) fn start_of(stretch: Stretch) -> u128
-    ensures { result ≡ start_of stretch }
+    ensures { result ≡ stretch_start stretch }
 {
     (u128::from(stretch.number) << 32) + u128::from(stretch.low)
 }

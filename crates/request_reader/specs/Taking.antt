@@ -69,7 +69,7 @@ is_closed taken.TooLong = false
 is_closed taken.Failed = false
 
 -- the same of a link, whose other side stays as it was
-pub record Takes (ahead : List ℕ) (old : Ends) (took : Taken) (ahead' : List ℕ) (new : Ends) : Type 0 where
+pub record TakesRequest (ahead : List ℕ) (old : Ends) (took : Taken) (ahead' : List ℕ) (new : Ends) : Type 0 where
   pub request : TakesFor (prepend_known ahead old.reads.known) took ahead' new.reads.known
   pub ended : new.reads.ended ≡ is_closed took
   pub cause : HasCause old.reads.faults new.reads.faults (took ≡ taken.Failed)

@@ -2,7 +2,7 @@
 ghost use Rattle.std.specs.Prelude.{◌≡◌, ◌<◌, ◌≤◌, ◌++◌, ◌∷◌, [], ℕ, List, All, length, IfOk, false};
 ghost use Rattle.dict_value.specs.declared.letters.TheConstants.{LINE_FEED};
 ghost use Rattle.line_reader.specs.Reading.{IsLine};
-ghost use Rattle.request_reader.specs.Taking.{BlockReads, IsHeardAs, IsLargeAs, Takes};
+ghost use Rattle.request_reader.specs.Taking.{BlockReads, IsHeardAs, IsLargeAs, TakesRequest};
 ghost use Rattle.wire_text.specs.Requests.{LinesAfter};
 
 use crate::further::{Further, More, read_more};
@@ -115,7 +115,8 @@ fn take_block<L: Link>(
     requires short { IfOk first (λ line. length line ≤ 65537) }
     requires some { 0 < count }
     ensures { (line : List ℕ) → IfOk first (λ kept. kept ≡ line) → IsLine line → LinesAfter line count
-        → Takes (line ++ LINE_FEED ∷ lines.old.ahead) (L.ends link.old) result lines.new.ahead (L.ends link.new) }
+        → TakesRequest (line ++ LINE_FEED ∷ lines.old.ahead) (L.ends link.old) result
+        lines.new.ahead (L.ends link.new) }
 {
     match read_more(alloc, lines, link, count) {
         More::All(further) => Taken::Request {
@@ -146,7 +147,7 @@ fn read_last(alloc: Global, line: &[u8], count: u32) -> Asking
 /// Takes the next request of a link.
 pub fn next_request<L: Link>(alloc: Global, lines: &mut Lines, link: &mut L) -> Taken
     requires { (L.ends link.old).reads.ended ≡ false }
-    ensures { Takes lines.old.ahead (L.ends link.old) result lines.new.ahead (L.ends link.new) }
+    ensures { TakesRequest lines.old.ahead (L.ends link.old) result lines.new.ahead (L.ends link.new) }
 {
     match lines.next_of(link) {
         Next::Whole => {

@@ -14,8 +14,8 @@ use Rattle.row_text.specs.declared.cutter.CutRule.TheVariants as rule
 use Rattle.row_text.specs.Cutting.{IsWhole, keeps_open}
 use Rattle.row_text.specs.Decoding.{Reader}
 use Rattle.row_text.specs.Marks.{Mark, bare, escaped, hex, IsMark, Spells, spelled}
-use Rattle.row_text.specs.TabRow.{ends_in_return, field_of, is_null}
-use Rattle.row_text.specs.steps.TabSteps.{FieldOf, IsPlain, Reaches}
+use Rattle.row_text.specs.TabRow.{ends_in_return, field_of, are_null_marks}
+use Rattle.row_text.specs.steps.TabSteps.{FieldOf, IsOrdinary, ReachesUntabbed}
 use Rattle.row_text.specs.steps.DirectSteps.{AddsField, AddsValue, BeginsWithRow, EndsNoLine, EndsPiece, FrontMarks, HasFieldsTaken, IsQuiet, LacksReturn}
 use Rattle.row_text.proofs.CutSteps.{keeps_open-nil, keeps_open-push, open-nil, open-push, toggle-other, toggled}
 use Rattle.row_text.proofs.DirectRows.{values-all, values-more, values-none}
@@ -79,7 +79,7 @@ place-within text at size within below = omega (arith, below, ap (λ (t : List �
 
 -- quiet bytes are marks by themselves, and their field is their text
 
-quiet-plain : (run : List ℕ) → AllByRecursion IsQuiet run → AllByRecursion IsPlain run
+quiet-plain : (run : List ℕ) → AllByRecursion IsQuiet run → AllByRecursion IsOrdinary run
 quiet-plain [] quiet = tt
 quiet-plain (b ∷ run) quiet = (quiet.0.0, quiet-plain run quiet.1)
 
@@ -87,7 +87,7 @@ quiet-unended : (run : List ℕ) → AllByRecursion IsQuiet run → AllByRecursi
 quiet-unended [] quiet = tt
 quiet-unended (b ∷ run) quiet = (quiet.0.1, quiet-unended run quiet.1)
 
-bare-null : (run : List ℕ) → is_null (map bare run) ≡ false
+bare-null : (run : List ℕ) → are_null_marks (map bare run) ≡ false
 bare-null [] = refl
 bare-null (b ∷ run) = refl
 
@@ -107,7 +107,7 @@ piece-adds columns text size byte old new piece adds =
     (map bare (take size text), piece-marks text size byte piece, subst (λ (f : Field). AddsValue columns f old new) (sym (bare-field (take size text))) adds)
 
 -- marks up to a place, and quiet bytes from there on
-pub piece-behind : (text : List ℕ) (at size byte : ℕ) (marks : List Mark) → Reaches text at marks → AllByRecursion EndsNoLine marks → EndsPiece (suffix text at) size byte
+pub piece-behind : (text : List ℕ) (at size byte : ℕ) (marks : List Mark) → ReachesUntabbed text at marks → AllByRecursion EndsNoLine marks → EndsPiece (suffix text at) size byte
     → FrontMarks text (at + size) byte (marks ++ map bare (take size (suffix text at)))
 piece-behind text at size byte marks reaches unended piece =
     let run = take size (suffix text at) in
@@ -119,7 +119,7 @@ piece-behind text at size byte marks reaches unended piece =
     }
 
 -- the mark of an escape ends no line
-pub escape-unended : (text : List ℕ) (size : ℕ) (mark : Mark) → get_or text 0 0 ≡ BACKSLASH → Reaches text size (mark ∷ []) → EndsNoLine mark
+pub escape-unended : (text : List ℕ) (size : ℕ) (mark : Mark) → get_or text 0 0 ≡ BACKSLASH → ReachesUntabbed text size (mark ∷ []) → EndsNoLine mark
 escape-unended text size (escaped b) first reaches = tt
 escape-unended text size (hex high low) first reaches = tt
 escape-unended [] size (bare b) first reaches = absurd (eqb-false 0 BACKSLASH refl first)

@@ -12,7 +12,7 @@ use Rattle.row_text.specs.declared.decode.DecodeFault.{DecodeFault}
 use Rattle.row_text.specs.declared.decode.DecodeFault.TheVariants as decode
 use Rattle.row_text.specs.Cutting.{Cuts, IsOpen, IsWhole, ended}
 use Rattle.row_text.specs.Decoding.{AreTypedRows, Decoded, Decodes, Reader, rule_of}
-use Rattle.row_text.specs.Growing.{Adds, AddsWhole, Bring, BringRows, DecodesBehind, GoesOn}
+use Rattle.row_text.specs.Growing.{AddsRowsOf, AddsWhole, Bring, BringRows, DecodesBehind, DecodesOn}
 use Rattle.row_text.specs.Tables.{AreLines, last_line}
 use Rattle.row_text.specs.steps.CutSteps.{BeginsWithLine}
 use Rattle.row_text.specs.steps.DecodeSteps.{AddsLine, FirstBrings, LineBrings, LineFails}
@@ -251,21 +251,21 @@ whole-paced format columns text size number count old new (lines, within, at, (c
 
 -- the fault of a whole line is that of the text
 pub more-fault : (format : Format) (columns : List Reader) (text : List ℕ) (number counted : ℕ) (old new other : List (List Value)) (fault : DecodeFault)
-    → Unless {A = ℕ} (Err fault) (AddsWhole format columns number old text (Err fault) counted new) → Unless {A = Unit {0}} (Err fault) (Adds format columns number old text (Err fault) other)
+    → Unless {A = ℕ} (Err fault) (AddsWhole format columns number old text (Err fault) counted new) → Unless {A = Unit {0}} (Err fault) (AddsRowsOf format columns number old text (Err fault) other)
 more-fault format columns text number counted old new other fault told want =
     let (lines, rest, (cuts, brings)) = told (λ e. want (let same : fault ≡ decode.NoMemory = cc in ap (λ (f : DecodeFault). Err f) same)) in
     (lines ++ last_line rest, cut-lines (rule_of format) text rest lines cuts, bring-fault format columns lines (last_line rest) number old fault brings)
 
 -- nothing stands behind the whole lines
 pub more-none : (format : Format) (columns : List Reader) (text : List ℕ) (size number counted : ℕ) (old new : List (List Value)) → AddsWhole format columns number old text (Ok size) counted new → size ≡ length text
-    → Adds format columns number old text (Ok tt) new
+    → AddsRowsOf format columns number old text (Ok tt) new
 more-none format columns text size number counted old new (lines, within, at, (cuts, brings)) all =
     let none : drop size text ≡ [] = nil_from_length (drop size text) (length-drop size text ∙ omega (arith, all)) in
     (lines ++ last_line [], cut-lines (rule_of format) text [] lines (subst (λ (t : List ℕ). Cuts (rule_of format) text lines t) none cuts), subst (λ (ls : List (List ℕ)). BringRows format columns ls old new) (sym (append-nil lines)) brings)
 
 -- the last line lacks its line feed
 pub more-last : (format : Format) (columns : List Reader) (text : List ℕ) (size number counted : ℕ) (old mid new : List (List Value)) → AddsWhole format columns number old text (Ok size) counted mid → size ≢ length text
-    → (answer : Result (Unit {0}) DecodeFault) → Unless answer (LineBrings format columns (suffix text size) (counted + 1) mid answer new) → Unless answer (Adds format columns number old text answer new)
+    → (answer : Result (Unit {0}) DecodeFault) → Unless answer (LineBrings format columns (suffix text size) (counted + 1) mid answer new) → Unless answer (AddsRowsOf format columns number old text answer new)
 more-last format columns text size number counted old mid new (lines, within, at, (cuts, brings)) some answer told want =
     let line = drop size text in
     let here : last_line line ≡ line ∷ [] = one-last line (omega (arith, length-drop size text)) in
@@ -278,7 +278,7 @@ more-last format columns text size number counted old mid new (lines, within, at
     one-last (b ∷ line) none = refl
 
     last : (answer : Result (Unit {0}) DecodeFault) → AreLines (rule_of format) text (lines ++ drop size text ∷ []) → LineBrings format columns (drop size text) (number + length lines + 1) mid answer new
-        → Adds format columns number old text answer new
+        → AddsRowsOf format columns number old text answer new
     last (Ok u) are found = (lines ++ drop size text ∷ [], are, bring-more format columns lines (drop size text) old mid new brings found)
     last (Err fault) are found = (lines ++ drop size text ∷ [], are, bring-fails format columns lines (drop size text) [] number old mid brings fault found)
 
@@ -316,37 +316,44 @@ from-none format columns text (Err decode.NoMemory) (lines, cut, b) = absurd b
 
 pub to-none : (format : Format) (columns : List Reader) (text : List ℕ) (answer : Decoded) → Decodes format columns text answer → DecodesBehind format columns 0 [] text answer
 to-none format columns text (Ok new) h = (h.lines, h.cut, record { rows = new; typed = h.typed; joined = refl; few = h.few })
-to-none format columns text (Err (decode.Bad bad)) h = (h.stands.before ++ h.line ∷ h.stands.after, h.stands.cut, record {
-  rows = h.rows;
-  line = h.line;
-  stands = record { before = h.stands.before; after = h.stands.after; split = refl; typed = h.stands.typed; is_row = h.stands.is_row };
-  room = h.room;
-  numbered = h.numbered ∙ omega arith;
-  reason = h.reason;
-})
-to-none format columns text (Err decode.TooMany) h = (h.stands.before ++ h.line ∷ h.stands.after, h.stands.cut, record {
-  rows = h.rows;
-  line = h.line;
-  stands = record { before = h.stands.before; after = h.stands.after; split = refl; typed = h.stands.typed; is_row = h.stands.is_row };
-  full = h.full;
-})
+to-none format columns text (Err (decode.Bad bad)) h = (
+  h.stands.before ++ h.line ∷ h.stands.after,
+  h.stands.cut,
+  record {
+    rows = h.rows;
+    line = h.line;
+    stands = record { before = h.stands.before; after = h.stands.after; split = refl; typed = h.stands.typed; is_row = h.stands.is_row };
+    room = h.room;
+    numbered = h.numbered ∙ omega arith;
+    reason = h.reason;
+  },
+)
+to-none format columns text (Err decode.TooMany) h = (
+  h.stands.before ++ h.line ∷ h.stands.after,
+  h.stands.cut,
+  record {
+    rows = h.rows;
+    line = h.line;
+    stands = record { before = h.stands.before; after = h.stands.after; split = refl; typed = h.stands.typed; is_row = h.stands.is_row };
+    full = h.full;
+  },
+)
 to-none format columns text (Err decode.NoMemory) h = absurd h
 
 -- a text that is cut behind a row's end
 pub goes-on : (format : Format) (columns : List Reader) (number : ℕ) (old : List (List Value)) (front rest : List ℕ) (lines : List (List ℕ)) (first answer : Decoded) → Cuts (rule_of format) front lines []
-    → DecodesBehind format columns number old front first → GoesOn format columns number old lines rest first answer → DecodesBehind format columns number old (front ++ rest) answer
+    → DecodesBehind format columns number old front first → DecodesOn format columns number old lines rest first answer → DecodesBehind format columns number old (front ++ rest) answer
 goes-on format columns number old front rest lines first answer cuts (lines', cut, brings) on =
     let same : lines' ≡ lines = one-lines (rule_of format) front lines' lines cut (lines, [], cuts, sym (append-nil lines)) in
     let joined : front ++ rest ≡ flat_map ended lines ++ rest = ap (λ (t : List ℕ). t ++ rest) (cuts.joined ∙ append-nil (flat_map ended lines)) in
     parts first answer joined (subst (λ (ls : List (List ℕ)). Bring format columns ls number old first) same brings) on
   where
-    parts : (first answer : Decoded) → front ++ rest ≡ flat_map ended lines ++ rest → Bring format columns lines number old first → GoesOn format columns number old lines rest first answer
+    parts : (first answer : Decoded) → front ++ rest ≡ flat_map ended lines ++ rest → Bring format columns lines number old first → DecodesOn format columns number old lines rest first answer
         → DecodesBehind format columns number old (front ++ rest) answer
     parts (Ok mid) answer joined brings (later, cut, more) =
         (lines ++ later, lines-behind (rule_of format) (front ++ rest) rest lines later joined cuts.whole cut, bring-on format columns lines later number old mid brings answer more)
     parts (Err fault) answer joined brings on =
-        let more = all-lines (rule_of format) [] rest (open-nil (rule_of format)) in
-        (
+        let more = all-lines (rule_of format) [] rest (open-nil (rule_of format)) in (
           lines ++ more.0,
           lines-behind (rule_of format) (front ++ rest) rest lines more.0 joined cuts.whole more.1,
           subst (λ (a : Decoded). Bring format columns (lines ++ more.0) number old a) (sym on) (bring-fault format columns lines more.0 number old fault brings),

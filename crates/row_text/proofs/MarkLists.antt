@@ -7,7 +7,7 @@ use Rattle.std.proofs.lemmas.List.Concat.{flat_map-append}
 use Rattle.dict_value.specs.declared.letters.TheConstants.{TAB, CARRIAGE_RETURN}
 use Rattle.row_text.specs.Marks.{Mark, bare, IsMark, Spells, meant_byte, spelled}
 use Rattle.row_text.specs.TabRow.{ends_in_return, is_tab}
-use Rattle.row_text.specs.steps.TabSteps.{IsPlain}
+use Rattle.row_text.specs.steps.TabSteps.{IsOrdinary}
 
 pub all-append : {X : Type 0} (P : X → Type 0) (xs ys : List X) → AllByRecursion P xs → AllByRecursion P ys → AllByRecursion P (xs ++ ys)
 all-append P [] ys p q = q
@@ -37,11 +37,11 @@ ends-append_true ms [] q = cc
 ends-append_true ms (n ∷ ns) q = ends-append_cons ms n ns ∙ q
 
 -- plain bytes, each by itself
-pub run-valid : (run : List ℕ) → AllByRecursion IsPlain run → AllByRecursion IsMark (map bare run)
+pub run-valid : (run : List ℕ) → AllByRecursion IsOrdinary run → AllByRecursion IsMark (map bare run)
 run-valid [] p = tt
 run-valid (b ∷ run) p = (p.0.1, run-valid run p.1)
 
-pub run-untabbed : (run : List ℕ) → AllByRecursion IsPlain run → AllByRecursion (λ m. is_tab m ≡ false) (map bare run)
+pub run-untabbed : (run : List ℕ) → AllByRecursion IsOrdinary run → AllByRecursion (λ m. is_tab m ≡ false) (map bare run)
 run-untabbed [] p = tt
 run-untabbed (b ∷ run) p = (ne_eqb b TAB p.0.0, run-untabbed run p.1)
 

@@ -14,14 +14,14 @@ use Rattle.dict_value.specs.declared.letters.TheConstants.{CARRIAGE_RETURN, TAB}
 use Rattle.row_text.specs.Marks.{Mark, bare, IsBadEscape, Spells, meant_byte}
 use Rattle.dict_value.specs.Memory.{UnlessNoMemory}
 use Rattle.row_text.specs.TabRow.{TabAnswers, IsTabRow, ends_in_return, field_of, fields_of, is_tab}
-use Rattle.row_text.specs.steps.TabSteps.{FieldOf, HasFieldsBefore, IsPlain, Reaches, ReadsField}
+use Rattle.row_text.specs.steps.TabSteps.{FieldOf, HasFieldsBefore, IsOrdinary, ReachesUntabbed, ReadsField}
 use Rattle.row_text.proofs.MarkLists.{all-append, ends-append, ends-append_cons, ends-append_true, run-ends, run-meant, run-spelled, run-untabbed, run-valid, spells-append, spells-nil}
 
-pub reach-start : (rest : List ℕ) → Reaches rest 0 []
+pub reach-start : (rest : List ℕ) → ReachesUntabbed rest 0 []
 reach-start rest = record { within = omega arith; spells = spells-nil; untabbed = tt }
 
 -- from one place to the next
-pub reach-more : (rest : List ℕ) (at size : ℕ) (ms ns : List Mark) → Reaches rest at ms → Reaches (drop at rest) size ns → Reaches rest (at + size) (ms ++ ns)
+pub reach-more : (rest : List ℕ) (at size : ℕ) (ms ns : List Mark) → ReachesUntabbed rest at ms → ReachesUntabbed (drop at rest) size ns → ReachesUntabbed rest (at + size) (ms ++ ns)
 reach-more rest at size ms ns p q = record {
   within = omega (arith, p.within, q.within, length-drop at rest);
   spells = rw (take-add at size rest) (spells-append _ _ ms ns p.spells q.spells);
@@ -29,7 +29,7 @@ reach-more rest at size ms ns p q = record {
 }
 
 -- a run of plain bytes
-pub reach-run : (rest : List ℕ) (size : ℕ) → size ≤ length rest → AllByRecursion IsPlain (take size rest) → Reaches rest size (map bare (take size rest))
+pub reach-run : (rest : List ℕ) (size : ℕ) → size ≤ length rest → AllByRecursion IsOrdinary (take size rest) → ReachesUntabbed rest size (map bare (take size rest))
 reach-run rest size within plain = record {
   within = within;
   spells = record { valid = run-valid _ plain; joined = sym (run-spelled _) };
@@ -67,15 +67,15 @@ suffix-suffix : (rest : List ℕ) (at size : ℕ) → suffix (suffix rest at) si
 suffix-suffix rest at size = take_rest (suffix rest at) size ∙ ap (drop size) (take_rest rest at) ∙ drop-drop size at rest
 
 -- marks up to a place, and a run of plain bytes from there on
-pub reach-plain : (rest : List ℕ) (at size : ℕ) (ms : List Mark) → Reaches rest at ms → size ≤ length (suffix rest at) → AllByRecursion IsPlain (take size (suffix rest at))
-    → Reaches rest (at + size) (ms ++ map bare (take size (suffix rest at)))
+pub reach-plain : (rest : List ℕ) (at size : ℕ) (ms : List Mark) → ReachesUntabbed rest at ms → size ≤ length (suffix rest at) → AllByRecursion IsOrdinary (take size (suffix rest at))
+    → ReachesUntabbed rest (at + size) (ms ++ map bare (take size (suffix rest at)))
 reach-plain rest at size ms p within plain =
     reach-more rest at size ms (map bare (take size (suffix rest at))) p
-    (subst (λ (t : List ℕ). Reaches t size (map bare (take size (suffix rest at)))) (take_rest rest at) (reach-run (suffix rest at) size within plain))
+    (subst (λ (t : List ℕ). ReachesUntabbed t size (map bare (take size (suffix rest at)))) (take_rest rest at) (reach-run (suffix rest at) size within plain))
 
-pub reach-mark : (rest : List ℕ) (at size more : ℕ) (ms : List Mark) (mark : Mark) → Reaches rest (at + size) ms → Reaches (suffix (suffix rest at) size) more (mark ∷ [])
-    → Reaches rest (at + size + more) (ms ++ mark ∷ [])
-reach-mark rest at size more ms mark p q = reach-more rest (at + size) more ms (mark ∷ []) p (subst (λ (t : List ℕ). Reaches t more (mark ∷ [])) (suffix-suffix rest at size) q)
+pub reach-mark : (rest : List ℕ) (at size more : ℕ) (ms : List Mark) (mark : Mark) → ReachesUntabbed rest (at + size) ms → ReachesUntabbed (suffix (suffix rest at) size) more (mark ∷ [])
+    → ReachesUntabbed rest (at + size + more) (ms ++ mark ∷ [])
+reach-mark rest at size more ms mark p q = reach-more rest (at + size) more ms (mark ∷ []) p (subst (λ (t : List ℕ). ReachesUntabbed t more (mark ∷ [])) (suffix-suffix rest at size) q)
 
 pub meant-mark : (text : List ℕ) (byte : ℕ) (ms : List Mark) (mark : Mark) → text ≡ map meant_byte ms → byte ≡ meant_byte mark → text ++ byte ∷ [] ≡ map meant_byte (ms ++ mark ∷ [])
 meant-mark text byte ms mark e is = ap (λ (t : List ℕ). t ++ byte ∷ []) e ∙ ap (λ (b : ℕ). map meant_byte ms ++ b ∷ []) is ∙ sym (map-append meant_byte ms (mark ∷ []))
@@ -84,7 +84,7 @@ pub bad-at : (rest : List ℕ) (at size : ℕ) → IsBadEscape (suffix (suffix r
 bad-at rest at size bad = subst IsBadEscape (suffix-suffix rest at size) bad
 
 -- a text that the marks reach the end of
-pub whole-spells : (rest : List ℕ) (at : ℕ) (ms : List Mark) → Reaches rest at ms → at ≡ length rest → Spells rest ms
+pub whole-spells : (rest : List ℕ) (at : ℕ) (ms : List Mark) → ReachesUntabbed rest at ms → at ≡ length rest → Spells rest ms
 whole-spells rest at ms p e = subst (λ (t : List ℕ). Spells t ms) (take_all at rest (omega arith)) p.spells
 
 -- the last byte of a run

@@ -12,7 +12,7 @@ use Rattle.row_text.specs.Cutting.{IsOpen, IsWhole, keeps_open}
 use Rattle.dict_value.specs.declared.letters.TheConstants.{BACKSLASH, CAPITAL_N, CARRIAGE_RETURN, LETTER_X, LINE_FEED, TAB}
 use Rattle.dict_value.specs.Escapes.{hex_digit, unescaped}
 use Rattle.row_text.specs.Marks.{Mark, bare, escaped, hex, IsMark, Spells, meant_byte, spelled}
-use Rattle.row_text.specs.TabRow.{IsTabRow, ends_in_return, field_of, field_text, fields_of, is_null, is_return, is_tab, row_line, written_as, written_byte, written_letter}
+use Rattle.row_text.specs.TabRow.{IsTabRow, ends_in_return, field_of, field_text, fields_of, are_null_marks, is_return, is_tab, row_line, written_as, written_byte, written_letter}
 use Rattle.row_text.proofs.CutSteps.{keeps_open-nil, keeps_open-push}
 use Rattle.row_text.proofs.MarkLists.{all-append, ends-append, ends-append_cons, spells-append}
 use Rattle.row_text.proofs.Reached.{fields-last, fields-tab}
@@ -68,7 +68,7 @@ record IsWritten (b : ℕ) (text : List ℕ) (mark : Mark) : Type 0 where
   means : meant_byte mark ≡ b
   untabbed : is_tab mark ≡ false
   open' : is_return mark ≡ false
-  some : is_null (mark ∷ []) ≡ false
+  some : are_null_marks (mark ∷ []) ≡ false
   one_line : AllByRecursion (λ c. c ≢ LINE_FEED) text
 
 mark-known : (b : ℕ) (letter : Option ℕ) → WritesAs b letter → IsWritten b (written_as b letter) (mark_as b letter)
@@ -113,12 +113,12 @@ text-open [] = refl
 text-open (b ∷ []) = (known b).open'
 text-open (b ∷ c ∷ bytes) = text-open (c ∷ bytes)
 
-two-marks : (m n : Mark) (ms : List Mark) → is_null (m ∷ n ∷ ms) ≡ false
+two-marks : (m n : Mark) (ms : List Mark) → are_null_marks (m ∷ n ∷ ms) ≡ false
 two-marks (bare b) n ms = refl
 two-marks (escaped b) n ms = refl
 two-marks (hex h l) n ms = refl
 
-text-some : (bytes : List ℕ) → is_null (map mark_of bytes) ≡ false
+text-some : (bytes : List ℕ) → are_null_marks (map mark_of bytes) ≡ false
 text-some [] = refl
 text-some (b ∷ []) = (known b).some
 text-some (b ∷ c ∷ bytes) = two-marks (mark_of b) (mark_of c) (map mark_of bytes)

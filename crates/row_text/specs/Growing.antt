@@ -61,10 +61,10 @@ DecodesBehind format columns number old text answer =
     (lines : List (List ℕ)) × AreLines (rule_of format) text lines × Bring format columns lines number old answer
 
 -- the same as a call tells it that adds to the rows
-abbrev pub Adds : Format → List Reader → ℕ → List (List Value) → List ℕ
+abbrev pub AddsRowsOf : Format → List Reader → ℕ → List (List Value) → List ℕ
     → Result (Unit {0}) DecodeFault → List (List Value) → Type 0
-Adds format columns number old text (Ok _) new = DecodesBehind format columns number old text (Ok new)
-Adds format columns number old text (Err fault) new = DecodesBehind format columns number old text (Err fault)
+AddsRowsOf format columns number old text (Ok _) new = DecodesBehind format columns number old text (Ok new)
+AddsRowsOf format columns number old text (Err fault) new = DecodesBehind format columns number old text (Err fault)
 
 -- what the lines bring that have their line feed; the rest of the text is less than one more
 abbrev pub WholeLinesBring : Format → List Reader → ℕ → List (List Value) → List ℕ → List (List ℕ) → List ℕ
@@ -83,7 +83,7 @@ AddsWhole format columns number old text (Err fault) counted new = (lines : List
 
 -- A text that is cut behind a row's end has what its first part brings, where that is a fault, and else what the
 -- rest brings behind it.
-abbrev pub GoesOn : Format → List Reader → ℕ → List (List Value) → List (List ℕ) → List ℕ → Decoded → Decoded → Type 0
-GoesOn format columns number old lines rest (Err fault) answer = answer ≡ Err fault
-GoesOn format columns number old lines rest (Ok middle) answer =
+abbrev pub DecodesOn : Format → List Reader → ℕ → List (List Value) → List (List ℕ) → List ℕ → Decoded → Decoded → Type 0
+DecodesOn format columns number old lines rest (Err fault) answer = answer ≡ Err fault
+DecodesOn format columns number old lines rest (Ok middle) answer =
     DecodesBehind format columns (number + length lines) middle rest answer

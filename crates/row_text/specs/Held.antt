@@ -8,7 +8,7 @@ use Rattle.dict_value.specs.declared.letters.TheConstants.{LINE_FEED}
 use Rattle.row_text.specs.Cutting.{IsOpen, IsWhole, keeps_open}
 
 -- the cutter goes by this rule, and stands behind these bytes of a row
-pub record Holds (rule : CutRule) (cutter : Cutter) (row : List ℕ) : Type 0 where
+pub record IsBehindRow (rule : CutRule) (cutter : Cutter) (row : List ℕ) : Type 0 where
   pub by_rule : cutter.rule ≡ rule
   pub opened : IsOpen rule row
   pub started : cutter.started ≡ nat_lt 0 (length row)
@@ -22,8 +22,8 @@ EndsRow rule row piece count =
 
 -- what a cutter behind these bytes of a row answers to a piece, and where it stands then
 abbrev pub Feeds : CutRule → List ℕ → List ℕ → Cut → Cutter → Type 0
-Feeds rule row piece (cut.Row count) after = EndsRow rule row piece count × Holds rule after []
-Feeds rule row piece cut.More after = Holds rule after (row ++ piece)
+Feeds rule row piece (cut.Row count) after = EndsRow rule row piece count × IsBehindRow rule after []
+Feeds rule row piece cut.More after = IsBehindRow rule after (row ++ piece)
 
 -- a row end is one of the piece's
 abbrev pub IsCutOf : List ℕ → Cut → Type 0

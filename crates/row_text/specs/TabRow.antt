@@ -18,16 +18,16 @@ is_tab (escaped b) = false
 is_tab (hex high low) = false
 
 -- whether the marks are \N alone
-abbrev pub is_null : List Mark → Bool
-is_null [] = false
-is_null (bare b ∷ marks) = false
-is_null (hex high low ∷ marks) = false
-is_null (escaped b ∷ []) = b == CAPITAL_N
-is_null (escaped b ∷ mark ∷ marks) = false
+abbrev pub are_null_marks : List Mark → Bool
+are_null_marks [] = false
+are_null_marks (bare b ∷ marks) = false
+are_null_marks (hex high low ∷ marks) = false
+are_null_marks (escaped b ∷ []) = b == CAPITAL_N
+are_null_marks (escaped b ∷ mark ∷ marks) = false
 
 -- the field that the marks between two tabs stand for
 abbrev pub field_of : List Mark → Field
-field_of marks = if is_null marks then field.Null else field.Text (map meant_byte marks)
+field_of marks = if are_null_marks marks then field.Null else field.Text (map meant_byte marks)
 
 abbrev pub fields_of : List Mark → List Field
 fields_of marks = map field_of (slice_split is_tab marks)

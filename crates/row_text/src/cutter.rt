@@ -3,8 +3,8 @@ ghost use Rattle.std.specs.Prelude.{◌≡◌, ◌↔◌, ◌∷◌, ◌++◌, [
 ghost use Rattle.std.specs.List.{concat};
 ghost use Rattle.row_text.specs.Cutting.{AreRows, Cuts, IsOpen, keeps_open};
 ghost use Rattle.row_text.specs.Tables.{AreLines, last_line};
-ghost use Rattle.row_text.specs.steps.CutSteps.{BeginsWithLine, CutsPiece, Finds, IsWithin};
-ghost use Rattle.row_text.specs.Held.{Holds};
+ghost use Rattle.row_text.specs.steps.CutSteps.{BeginsWithLine, CutsPiece, FindsEnd, IsWithin};
+ghost use Rattle.row_text.specs.Held.{IsBehindRow};
 ghost use Rattle.row_text.specs.declared.cutter.CutRule.{CutRule};
 
 use dict_value::letters::{BACKSLASH, DOUBLE_QUOTE, LINE_FEED};
@@ -41,11 +41,11 @@ pub struct Cutter {
 
 impl Cutter {
     ghost use Rattle.row_text.specs.declared.cutter.CutRule.{CutRule};
-    ghost use Rattle.row_text.specs.Held.{Feeds, Holds, IsCutOf};
+    ghost use Rattle.row_text.specs.Held.{Feeds, IsBehindRow, IsCutOf};
 
     /// At the start of a text.
     pub fn new(rule: CutRule) -> Cutter
-        ensures { Holds rule result [] }
+        ensures { IsBehindRow rule result [] }
     {
         Cutter {
             rule,
@@ -57,7 +57,7 @@ impl Cutter {
     /// Reads the bytes of a piece up to the first row end in it, or all of them.
     pub fn feed(&mut self, piece: &[u8]) -> Cut
         ensures within { IsCutOf piece.now result }
-        ensures feeds { (rule : CutRule) (row : List ℕ) → Holds rule self.old row
+        ensures feeds { (rule : CutRule) (row : List ℕ) → IsBehindRow rule self.old row
             → Feeds rule row piece.now result self.new }
     {
         match row_end(self.rule, self.inside, piece) {
@@ -76,7 +76,7 @@ impl Cutter {
 
     /// Whether no byte of a row was taken since the last row end.
     pub fn at_start(&self) -> bool
-        ensures { (rule : CutRule) (row : List ℕ) → Holds rule self.now row → (IsTrue result ↔ (row ≡ [])) }
+        ensures { (rule : CutRule) (row : List ℕ) → IsBehindRow rule self.now row → (IsTrue result ↔ (row ≡ [])) }
     {
         !self.started
     }
@@ -107,7 +107,8 @@ fn inside_after(rule: CutRule, inside: bool, byte: u8) -> bool
 #[inline(always)]
 fn row_end(rule: CutRule, before: bool, piece: &[u8]) -> Found
     ensures within { IsWithin piece.now result }
-    ensures finds { (row : List ℕ) → IsOpen rule row → before ≡ keeps_open rule row → Finds rule row piece.now result }
+    ensures finds { (row : List ℕ) → IsOpen rule row → before ≡ keeps_open rule row
+        → FindsEnd rule row piece.now result }
 {
     let mut inside = before;
     for (place, b) in piece.iter().enumerate() {
@@ -165,8 +166,8 @@ fn cut_piece(
     row: &mut Bytes,
     rows: &mut ListOf<Bytes>,
 ) -> Result<(), NoMemory>
-    ensures { OnOk result ((rule : CutRule) → Holds rule cutter.old row.old
-        → Holds rule cutter.new row.new × CutsPiece rule row.old rows.old piece.now row.new rows.new) }
+    ensures { OnOk result ((rule : CutRule) → IsBehindRow rule cutter.old row.old
+        → IsBehindRow rule cutter.new row.new × CutsPiece rule row.old rows.old piece.now row.new rows.new) }
 {
     let mut left = piece;
     while let Cut::Row(count) = cutter.feed(left) {

@@ -1,13 +1,15 @@
 // Whole texts, decoded row by row into values.
-ghost use Rattle.std.specs.Prelude.{◌≡◌, ◌<◌, ◌≤◌, ◌+◌, ◌++◌, ◌∷◌, [], true, Err, List, length, IfOk, IfNone, IfSome, OnErr, OnOk, OnSome};
+ghost use Rattle.std.specs.Prelude.{◌≡◌, ◌<◌, ◌≤◌, ◌+◌, ◌++◌, ◌∷◌, [], true, Err, List, length, IfOk, IfNone};
+ghost use Rattle.std.specs.Prelude.{IfSome, OnErr, OnOk, OnSome};
 ghost use Rattle.std.specs.List.{AllZip};
 ghost use Rattle.dict_value.specs.Values.{FitsColumn};
 ghost use Rattle.dict_value.specs.declared.value.Format.{Format};
 ghost use Rattle.dict_value.specs.Memory.{UnlessNoMemory};
 ghost use Rattle.row_text.specs.Fitting.{AllFit};
 ghost use Rattle.row_text.specs.Decoding.{Decodes, LineGives, is_row_line, rule_of};
-ghost use Rattle.row_text.specs.Growing.{Adds, AddsWhole};
-ghost use Rattle.row_text.specs.steps.DecodeSteps.{FirstBrings, LineBrings, LineDecodes, TakeAll, column_fault, fault_at, row_fault};
+ghost use Rattle.row_text.specs.Growing.{AddsRowsOf, AddsWhole};
+ghost use Rattle.row_text.specs.steps.DecodeSteps.{FirstBrings, LineBrings, LineDecodes, TakeAll, column_fault};
+ghost use Rattle.row_text.specs.steps.DecodeSteps.{fault_at, row_fault};
 
 use crate::columns::Columns;
 use crate::csv_row::{is_blank_line, read_csv_row};
@@ -67,7 +69,7 @@ pub fn decode_more<C: Columns>(
     requires none { rows.old.open_row ≡ [] }
     requires few { length rows.old.rows ≤ MOST_ROWS }
     ensures adds { UnlessNoMemory (Err DecodeFault.NoMemory) result
-        (Adds format (C.columns columns.now) lines_before rows.old.rows text.now result rows.new.rows) }
+        (AddsRowsOf format (C.columns columns.now) lines_before rows.old.rows text.now result rows.new.rows) }
     ensures types { OnOk result (rows.new.types ≡ rows.old.types) }
     ensures none { OnOk result (rows.new.open_row ≡ []) }
 {

@@ -8,7 +8,7 @@ ghost use Rattle.dict_value.specs.declared.value.Value.{Value};
 ghost use Rattle.row_text.specs.Cutting.{Cuts, ended};
 ghost use Rattle.row_text.specs.CsvRow.{BeginsWithMark, csv_fields, csv_text};
 ghost use Rattle.row_text.specs.Decoding.{Decoded, Decodes, LineGives, Reader, rule_of};
-ghost use Rattle.row_text.specs.Growing.{DecodesBehind, GoesOn};
+ghost use Rattle.row_text.specs.Growing.{DecodesBehind, DecodesOn};
 ghost use Rattle.row_text.specs.TabRow.{row_line};
 ghost use Rattle.row_text.specs.Tables.{AreLines, IsCsvTable, IsTabTable};
 ghost use Rattle.row_text.specs.declared.cutter.CutRule.{CutRule};
@@ -62,7 +62,7 @@ pub fn decoding_goes_on()
     ensures cut { (format : Format) (columns : List Reader) (number : ℕ) (old : List (List Value)) (front rest : List ℕ)
         (lines : List (List ℕ)) (first answer : Decoded) → Cuts (rule_of format) front lines []
         → DecodesBehind format columns number old front first
-        → GoesOn format columns number old lines rest first answer
+        → DecodesOn format columns number old lines rest first answer
         → DecodesBehind format columns number old (front ++ rest) answer }
 {}
 

@@ -8,9 +8,9 @@ ghost use Rattle.dict_value.specs.declared.fault.LineFault.{LineFault};
 ghost use Rattle.row_text.specs.Cutting.{IsWhole, ended};
 ghost use Rattle.row_text.specs.Marks.{Mark, Spells, meant_byte};
 ghost use Rattle.dict_value.specs.Memory.{UnlessNoMemory};
-ghost use Rattle.row_text.specs.TabRow.{TabAnswers, IsTabRow, field_of, field_text, is_null, row_line};
+ghost use Rattle.row_text.specs.TabRow.{TabAnswers, IsTabRow, field_of, field_text, are_null_marks, row_line};
 ghost use Rattle.row_text.specs.TabRow.{written_byte, written_letter};
-ghost use Rattle.row_text.specs.steps.TabSteps.{EscapeOf, IsPlain, ReadsField};
+ghost use Rattle.row_text.specs.steps.TabSteps.{EscapeOf, IsOrdinary, ReadsField};
 ghost use Rattle.row_text.specs.declared.cutter.CutRule.TheVariants as rule;
 
 use dict_value::letters::*;
@@ -87,7 +87,7 @@ fn read_field(alloc: Global, rest: &[u8], start: usize) -> Result<(Field, usize)
 /// How many bytes stand before the first tab or backslash.
 fn run_len(rest: &[u8]) -> usize
     ensures within { result ≤ length rest.now }
-    ensures plain { AllByRecursion IsPlain (take result rest.now) }
+    ensures plain { AllByRecursion IsOrdinary (take result rest.now) }
     ensures stops { result < length rest.now
         → (slice_index rest.now result ≡ TAB) ⊎ (slice_index rest.now result ≡ BACKSLASH) }
 {
@@ -112,7 +112,7 @@ fn field_from(raw: &[u8], text: Bytes) -> Field
 
 /// Whether the field of these bytes is NULL.
 pub(crate) fn is_null_field(raw: &[u8]) -> bool
-    ensures { (marks : List Mark) → Spells raw.now marks → result ≡ is_null marks }
+    ensures { (marks : List Mark) → Spells raw.now marks → result ≡ are_null_marks marks }
 {
     raw.len() == 2 && raw[0] == BACKSLASH && raw[1] == CAPITAL_N
 }

@@ -9,7 +9,7 @@ use Rattle.row_text.specs.TabRow.{IsTabRow}
 use Rattle.wire_text.proofs.Asking.{tabled, told}
 use Rattle.wire_text.specs.Requests.{AsksFor, IsRequest}
 use Rattle.wire_text.specs.steps.Asked.{AsksAbove, AsksBehind, AsksBlock, AsksBy, AsksHead, AsksLookup, AsksNamed, ReadsBy, RowRead, RowsRead, head_in}
-use Rattle.wire_text.specs.steps.Fields.{lookup_in, word_in}
+use Rattle.wire_text.specs.steps.Fields.{lookup_in, request_word}
 use Rattle.wire_text.specs.declared.reading.Lookup.{Lookup}
 use Rattle.wire_text.specs.declared.request.Request.{Request}
 use Rattle.wire_text.specs.declared.request.Request.TheVariants as request
@@ -29,20 +29,20 @@ carried P Q to back (Err NoMemory) p = tt
 
 -- the table's request is the one that its word tells
 worded : (line text : List ℕ) (w : Word) (fields rest : List Field) (rows : List (List Field)) (r : Request)
-    → fields ≡ Text text ∷ rest → word_in text ≡ Some w → AsksFor line fields rows r → AsksBehind w line rest rows r
+    → fields ≡ Text text ∷ rest → request_word text ≡ Some w → AsksFor line fields rows r → AsksBehind w line rest rows r
 worded line text w fields rest rows r e read p =
     let q = told line p in
     let stands : Text q.text ∷ q.rest ≡ Text text ∷ rest = sym q.first ∙ e in
     let same_rest : q.rest ≡ rest = cc in
     let same_text : q.text ≡ text = cc in
-    let found : word_in q.text ≡ Some q.word = q.read in
+    let found : request_word q.text ≡ Some q.word = q.read in
     let same_word : q.word ≡ w = cc in
     subst (λ (v : Word). AsksBehind v line rest rows r) same_word
     (subst (λ (f : List Field). AsksBehind q.word line f rows r) same_rest q.behind)
 
 -- a block, by what stands behind its word
 pub block_answers : (line text : List ℕ) (w : Word) (fields rest : List Field) (rows : List (List Field)) (answer : Result Request RequestFault)
-    → fields ≡ Text text ∷ rest → word_in text ≡ Some w → w ≡ word.Many
+    → fields ≡ Text text ∷ rest → request_word text ≡ Some w → w ≡ word.Many
     → ReadsBy (AsksBlock line rest rows) answer → ReadsBy (AsksFor line fields rows) answer
 block_answers line text w fields rest rows answer e read many =
     carried (AsksBlock line rest rows) (AsksFor line fields rows)
@@ -54,7 +54,7 @@ block_answers line text w fields rest rows answer e read many =
 
 -- any other request, by what stands behind its word
 pub single_answers : (line text : List ℕ) (w : Word) (fields rest : List Field) (rows : List (List Field)) (answer : Result Request RequestFault)
-    → fields ≡ Text text ∷ rest → word_in text ≡ Some w → w ≢ word.Many
+    → fields ≡ Text text ∷ rest → request_word text ≡ Some w → w ≢ word.Many
     → ReadsBy (λ r. (rows ≡ []) × AsksBy w rest r) answer → ReadsBy (AsksFor line fields rows) answer
 single_answers line text w fields rest rows answer e read other =
     carried (λ r. (rows ≡ []) × AsksBy w rest r) (AsksFor line fields rows)

@@ -5,9 +5,9 @@ use Rattle.std.proofs.lemmas.Slice.Eq.{bytes_eq-Decides}
 use Rattle.std.specs.Bool.{Decides}
 use Rattle.dict_value.specs.declared.value.Field.{Field}
 use Rattle.dict_value.specs.declared.value.Field.TheVariants.{Null, Text}
-use Rattle.wire_text.specs.Requests.{AsksFor, IsBlockLine, IsLookup, asked_above, asked_of}
+use Rattle.wire_text.specs.Requests.{AsksFor, IsBlockLine, IsVerbHead, asked_above, asked_of}
 use Rattle.wire_text.specs.steps.Asked.{AsksBehind, AsksBy, AsksHead, AsksLookup, head_in}
-use Rattle.wire_text.specs.steps.Fields.{attribute_in, default_in, lookup_in, lookup_of, lookup_word_in, plain_in, word_in}
+use Rattle.wire_text.specs.steps.Fields.{attribute_in, default_in, lookup_in, lookup_of, lookup_word_in, plain_in, request_word}
 use Rattle.wire_text.specs.declared.reading.Lookup.{Lookup}
 use Rattle.wire_text.specs.declared.request.Request.{Request}
 use Rattle.wire_text.specs.declared.request.Verb.{Verb}
@@ -58,7 +58,7 @@ lookup_word_is t w e =
     word_tried t word.Descendants _ w e λ e. let none : None ≡ Some w = e in cc
 
 -- a word is spelled as it is read
-word_is : (t : List ℕ) (w : Word) → word_in t ≡ Some w → t ≡ spelled w
+word_is : (t : List ℕ) (w : Word) → request_word t ≡ Some w → t ≡ spelled w
 word_is t w e =
     word_tried t word.Many _ w e λ e.
     word_tried t word.Reload _ w e λ e.
@@ -74,24 +74,24 @@ pub record AsksWord (line : List ℕ) (fields : List Field) (rows : List (List F
   pub rest : List Field
   pub word : Word
   pub first : fields ≡ Text text ∷ rest
-  pub read : word_in text ≡ Some word
+  pub read : request_word text ≡ Some word
   pub behind : AsksBehind word line rest rows r
 
 -- the lookup of a block is the table's
 head_told : (rows : List (List Field)) {head : List Field} {verb : Verb} {name attribute : List ℕ} {fallback : Field}
-    → IsLookup head verb name attribute fallback
+    → IsVerbHead head verb name attribute fallback
     → AsksHead (head_in head) rows (asked_of verb name attribute fallback true rows)
-head_told rows (IsLookup.get name attribute) = (refl, refl)
-head_told rows (IsLookup.get_or_default name attribute fallback) = (refl, refl)
-head_told rows (IsLookup.get_or_null name attribute) = (refl, refl)
-head_told rows (IsLookup.has name) = (refl, refl)
-head_told rows (IsLookup.call name) = (refl, refl)
+head_told rows (IsVerbHead.get name attribute) = (refl, refl)
+head_told rows (IsVerbHead.get_or_default name attribute fallback) = (refl, refl)
+head_told rows (IsVerbHead.get_or_null name attribute) = (refl, refl)
+head_told rows (IsVerbHead.has name) = (refl, refl)
+head_told rows (IsVerbHead.call name) = (refl, refl)
 
 -- a lookup of the table has its word
 lookup_told : (line : List ℕ) {head : List Field} {verb : Verb} {name attribute : List ℕ} {fallback : Field}
-    (keys fields : List Field) → fields ≡ head ++ keys → IsLookup head verb name attribute fallback → keys ≢ []
+    (keys fields : List Field) → fields ≡ head ++ keys → IsVerbHead head verb name attribute fallback → keys ≢ []
     → AsksWord line fields [] (asked_of verb name attribute fallback false (keys ∷ []))
-lookup_told line keys fields e (IsLookup.get name attribute) some = record {
+lookup_told line keys fields e (IsVerbHead.get name attribute) some = record {
   text = codes "dictGet";
   rest = Text name ∷ Text attribute ∷ keys;
   word = word.Get;
@@ -99,7 +99,7 @@ lookup_told line keys fields e (IsLookup.get name attribute) some = record {
   read = refl;
   behind = inr (refl, (some, refl));
 }
-lookup_told line keys fields e (IsLookup.get_or_default name attribute fallback) some = record {
+lookup_told line keys fields e (IsVerbHead.get_or_default name attribute fallback) some = record {
   text = codes "dictGetOrDefault";
   rest = Text name ∷ Text attribute ∷ fallback ∷ keys;
   word = word.GetOrDefault;
@@ -107,7 +107,7 @@ lookup_told line keys fields e (IsLookup.get_or_default name attribute fallback)
   read = refl;
   behind = inr (refl, (some, refl));
 }
-lookup_told line keys fields e (IsLookup.get_or_null name attribute) some = record {
+lookup_told line keys fields e (IsVerbHead.get_or_null name attribute) some = record {
   text = codes "dictGetOrNull";
   rest = Text name ∷ Text attribute ∷ keys;
   word = word.GetOrNull;
@@ -115,7 +115,7 @@ lookup_told line keys fields e (IsLookup.get_or_null name attribute) some = reco
   read = refl;
   behind = inr (refl, (some, refl));
 }
-lookup_told line keys fields e (IsLookup.has name) some = record {
+lookup_told line keys fields e (IsVerbHead.has name) some = record {
   text = codes "dictHas";
   rest = Text name ∷ keys;
   word = word.Has;
@@ -123,7 +123,7 @@ lookup_told line keys fields e (IsLookup.has name) some = record {
   read = refl;
   behind = inr (refl, (some, refl));
 }
-lookup_told line keys fields e (IsLookup.call name) some = record {
+lookup_told line keys fields e (IsVerbHead.call name) some = record {
   text = codes "call";
   rest = Text name ∷ keys;
   word = word.Call;
@@ -229,7 +229,7 @@ told line AsksFor.quit = record {
 record Looked (w : Word) (fields : List Field) (l : Lookup) : Type 0 where
   head : List Field
   whole : Text (spelled w) ∷ fields ≡ head ++ l.keys
-  lookup : IsLookup head l.verb l.name l.attribute l.fallback
+  lookup : IsVerbHead head l.verb l.name l.attribute l.fallback
 
 looked_get : (fields : List Field) (l : Lookup) → attribute_in verb.Get fields ≡ Some l → Looked word.Get fields l
 looked_get [] l e = let none : None ≡ Some l = e in cc
@@ -239,7 +239,7 @@ looked_get (Text n ∷ Null ∷ fields) l e = let none : None ≡ Some l = e in 
 looked_get (Text n ∷ Text a ∷ keys) l e =
     let one : lookup_of verb.Get n a Null keys ≡ l = cc in
     subst (λ (l : Lookup). Looked word.Get (Text n ∷ Text a ∷ keys) l) one
-    record { head = Text (codes "dictGet") ∷ Text n ∷ Text a ∷ []; whole = refl; lookup = IsLookup.get n a }
+    record { head = Text (codes "dictGet") ∷ Text n ∷ Text a ∷ []; whole = refl; lookup = IsVerbHead.get n a }
 
 looked_or_null : (fields : List Field) (l : Lookup) → attribute_in verb.GetOrNull fields ≡ Some l → Looked word.GetOrNull fields l
 looked_or_null [] l e = let none : None ≡ Some l = e in cc
@@ -249,7 +249,7 @@ looked_or_null (Text n ∷ Null ∷ fields) l e = let none : None ≡ Some l = e
 looked_or_null (Text n ∷ Text a ∷ keys) l e =
     let one : lookup_of verb.GetOrNull n a Null keys ≡ l = cc in
     subst (λ (l : Lookup). Looked word.GetOrNull (Text n ∷ Text a ∷ keys) l) one
-    record { head = Text (codes "dictGetOrNull") ∷ Text n ∷ Text a ∷ []; whole = refl; lookup = IsLookup.get_or_null n a }
+    record { head = Text (codes "dictGetOrNull") ∷ Text n ∷ Text a ∷ []; whole = refl; lookup = IsVerbHead.get_or_null n a }
 
 looked_or_default : (fields : List Field) (l : Lookup) → default_in fields ≡ Some l → Looked word.GetOrDefault fields l
 looked_or_default [] l e = let none : None ≡ Some l = e in cc
@@ -263,7 +263,7 @@ looked_or_default (Text n ∷ Text a ∷ fallback ∷ keys) l e =
     record {
       head = Text (codes "dictGetOrDefault") ∷ Text n ∷ Text a ∷ fallback ∷ [];
       whole = refl;
-      lookup = IsLookup.get_or_default n a fallback;
+      lookup = IsVerbHead.get_or_default n a fallback;
     }
 
 looked_has : (fields : List Field) (l : Lookup) → plain_in verb.Has fields ≡ Some l → Looked word.Has fields l
@@ -272,7 +272,7 @@ looked_has (Null ∷ fields) l e = let none : None ≡ Some l = e in cc
 looked_has (Text n ∷ keys) l e =
     let one : lookup_of verb.Has n [] Null keys ≡ l = cc in
     subst (λ (l : Lookup). Looked word.Has (Text n ∷ keys) l) one
-    record { head = Text (codes "dictHas") ∷ Text n ∷ []; whole = refl; lookup = IsLookup.has n }
+    record { head = Text (codes "dictHas") ∷ Text n ∷ []; whole = refl; lookup = IsVerbHead.has n }
 
 looked_call : (fields : List Field) (l : Lookup) → plain_in verb.Call fields ≡ Some l → Looked word.Call fields l
 looked_call [] l e = let none : None ≡ Some l = e in cc
@@ -280,7 +280,7 @@ looked_call (Null ∷ fields) l e = let none : None ≡ Some l = e in cc
 looked_call (Text n ∷ keys) l e =
     let one : lookup_of verb.Call n [] Null keys ≡ l = cc in
     subst (λ (l : Lookup). Looked word.Call (Text n ∷ keys) l) one
-    record { head = Text (codes "call") ∷ Text n ∷ []; whole = refl; lookup = IsLookup.call n }
+    record { head = Text (codes "call") ∷ Text n ∷ []; whole = refl; lookup = IsVerbHead.call n }
 
 looked : (w : Word) (fields : List Field) (l : Lookup) → lookup_in w fields ≡ Some l → Looked w fields l
 looked word.Get fields l e = looked_get fields l e
@@ -369,7 +369,7 @@ block_looked line count w fields head rows r (Some l) e h block p =
     (AsksFor.block count block at.lookup)
 
 block_worded : (line : List ℕ) (count : Field) (text : List ℕ) (fields : List Field) (rows : List (List Field)) (r : Request)
-    (o : Option Word) → word_in text ≡ o → IsBlockLine line (length rows)
+    (o : Option Word) → request_word text ≡ o → IsBlockLine line (length rows)
     → AsksHead (option_and_then (λ (w : Word). lookup_in w fields) o) rows r
     → AsksFor line (Text (codes "many") ∷ count ∷ Text text ∷ fields) rows r
 block_worded line count text fields rows r None e block p = absurd p
@@ -383,7 +383,7 @@ block_headed : (line : List ℕ) (count : Field) (head : List Field) (rows : Lis
 block_headed line count [] rows r block p = absurd p
 block_headed line count (Null ∷ fields) rows r block p = absurd p
 block_headed line count (Text text ∷ fields) rows r block p =
-    block_worded line count text fields rows r (word_in text) refl block p
+    block_worded line count text fields rows r (request_word text) refl block p
 
 -- from the word to the table
 behind_told : (line : List ℕ) (w : Word) (rest : List Field) (rows : List (List Field)) (r : Request)
@@ -396,36 +396,36 @@ behind_told line w rest rows r (inr p) =
     subst (λ (rows : List (List Field)). AsksFor line (Text (spelled w) ∷ rest) rows r) (sym p.0) (by_told line w rest r p.1)
 
 pub tabled : (line : List ℕ) (text : List ℕ) (w : Word) (fields rest : List Field) (rows : List (List Field)) (r : Request)
-    → fields ≡ Text text ∷ rest → word_in text ≡ Some w → AsksBehind w line rest rows r → AsksFor line fields rows r
+    → fields ≡ Text text ∷ rest → request_word text ≡ Some w → AsksBehind w line rest rows r → AsksFor line fields rows r
 tabled line text w fields rest rows r e read behind =
     moved line _ _ rows _ _ (e ∙ ap (λ (t : List ℕ). Text t ∷ rest) (word_is text w read)) refl (behind_told line w rest rows r behind)
 
 -- the lookup of a block that is read is the table's
-head_worded : (text : List ℕ) (fields : List Field) (l : Lookup) (o : Option Word) → word_in text ≡ o
+head_worded : (text : List ℕ) (fields : List Field) (l : Lookup) (o : Option Word) → request_word text ≡ o
     → option_and_then (λ (w : Word). lookup_in w fields) o ≡ Some l → l.keys ≡ []
-    → IsLookup (Text text ∷ fields) l.verb l.name l.attribute l.fallback
+    → IsVerbHead (Text text ∷ fields) l.verb l.name l.attribute l.fallback
 head_worded text fields l None e f none = let nothing : None ≡ Some l = f in cc
 head_worded text fields l (Some w) e f none =
     let at = looked w fields l f in
     let same : Text text ∷ fields ≡ at.head =
     ap (λ (t : List ℕ). Text t ∷ fields) (word_is text w e) ∙ at.whole ∙ ap (λ (k : List Field). at.head ++ k) none ∙ append-nil at.head in
-    subst (λ (h : List Field). IsLookup h l.verb l.name l.attribute l.fallback) (sym same) at.lookup
+    subst (λ (h : List Field). IsVerbHead h l.verb l.name l.attribute l.fallback) (sym same) at.lookup
 
 pub head_read : (head : List Field) (l : Lookup) → head_in head ≡ Some l → l.keys ≡ []
-    → IsLookup head l.verb l.name l.attribute l.fallback
+    → IsVerbHead head l.verb l.name l.attribute l.fallback
 head_read [] l e none = let nothing : None ≡ Some l = e in cc
 head_read (Null ∷ fields) l e none = let nothing : None ≡ Some l = e in cc
-head_read (Text text ∷ fields) l e none = head_worded text fields l (word_in text) refl e none
+head_read (Text text ∷ fields) l e none = head_worded text fields l (request_word text) refl e none
 
 -- a lookup of the table is read, without keys
 pub head_found : {head : List Field} {verb : Verb} {name attribute : List ℕ} {fallback : Field}
-    → IsLookup head verb name attribute fallback → head_in head ≡ Some (lookup_of verb name attribute fallback [])
-head_found (IsLookup.get name attribute) = refl
-head_found (IsLookup.get_or_default name attribute fallback) = refl
-head_found (IsLookup.get_or_null name attribute) = refl
-head_found (IsLookup.has name) = refl
-head_found (IsLookup.call name) = refl
+    → IsVerbHead head verb name attribute fallback → head_in head ≡ Some (lookup_of verb name attribute fallback [])
+head_found (IsVerbHead.get name attribute) = refl
+head_found (IsVerbHead.get_or_default name attribute fallback) = refl
+head_found (IsVerbHead.get_or_null name attribute) = refl
+head_found (IsVerbHead.has name) = refl
+head_found (IsVerbHead.call name) = refl
 
 -- the word of a block is spelled so
-pub many_is : (text : List ℕ) → word_in text ≡ Some word.Many → text ≡ codes "many"
+pub many_is : (text : List ℕ) → request_word text ≡ Some word.Many → text ≡ codes "many"
 many_is text e = word_is text word.Many e

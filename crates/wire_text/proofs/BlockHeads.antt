@@ -11,7 +11,7 @@ use Rattle.wire_text.specs.RequestTexts.{IsBlockHead}
 use Rattle.wire_text.specs.declared.reading.Lookup.{Lookup}
 use Rattle.wire_text.specs.declared.words.Word.TheVariants as word
 use Rattle.wire_text.specs.steps.Asked.{head_in}
-use Rattle.wire_text.specs.steps.Fields.{lookup_of, text_first, word_in}
+use Rattle.wire_text.specs.steps.Fields.{lookup_of, text_first, request_word}
 use Rattle.wire_text.specs.steps.Heads.{IsHeadOfBlock}
 
 first_put : Option (List ℕ × List Field) → List Field
@@ -25,7 +25,7 @@ first_is (Null ∷ fields) rest text e = let none : [] ≡ Text text ∷ rest = 
 first_is (Text t ∷ fields) rest text e = ap first_put e
 
 module _ (fields rest head : List Field) (text : List ℕ) (count : Field) (first : text_first fields ≡ Some (text, rest))
-    (many : word_in text ≡ Some word.Many) (cut : rest ≡ count ∷ head) where
+    (many : request_word text ≡ Some word.Many) (cut : rest ≡ count ∷ head) where
   -- the lookup of a block that has one
   found : (h : IsHeadOfBlock fields) → head_in head ≡ Some (lookup_of h.verb h.name h.attribute h.fallback [])
   found h =

@@ -3,7 +3,7 @@ use Rattle.std.proofs.Common.{◌≡◌, ◌⊎◌, ◌<◌, ◌^◌, ◌++◌, 
 use Rattle.dict_value.proofs.Cuts.{cut-once, digits-lack, lacks-not}
 use Rattle.dict_value.specs.Split.{Lacks}
 use Rattle.dict_value.specs.declared.letters.TheConstants.{TAB}
-use Rattle.wire_text.specs.Numbers.{IsDecimal}
+use Rattle.wire_text.specs.Numbers.{IsDecimalText}
 use Rattle.wire_text.specs.Requests.{IsBlockLine}
 
 -- a text ends behind a part, or a tab stands there
@@ -29,7 +29,7 @@ rest_same a b e = cc
 
 -- the number of a block's first line stands before the next tab
 digits_are : (line rest part : List ℕ) (n : ℕ) → line ≡ codes "many" ++ TAB ∷ rest → Lacks TAB part → EndsAtTab rest part
-    → IsBlockLine line n → IsDecimal part n × (n < 2 ^ 32)
+    → IsBlockLine line n → IsDecimalText part n × (n < 2 ^ 32)
 digits_are line rest part n e lacks ends b =
     let same : rest ≡ b.digits ++ b.rest = rest_same rest (b.digits ++ b.rest) (sym e ∙ b.spelled) in
     let clear : Lacks TAB b.digits = digits-lack TAB b.digits (omega arith) b.number.digits.each in
@@ -38,7 +38,7 @@ digits_are line rest part n e lacks ends b =
       | inr f ↦ inr (f.0, same ∙ ap (λ (t : List ℕ). b.digits ++ t) f.1)
     ] in
     let one : b.digits ≡ part = one_part rest b.digits part clear lacks stops ends in
-    (subst (λ (t : List ℕ). IsDecimal t n) one b.number, b.small)
+    (subst (λ (t : List ℕ). IsDecimalText t n) one b.number, b.small)
 
 -- what stands behind the part
 behind : (text part : List ℕ) → EndsAtTab text part
@@ -48,7 +48,7 @@ behind text part (inr e) = (TAB ∷ e.0, e.1, inr (e.0, refl))
 
 -- a block's first line tells one number
 pub block_size_is : (line rest part : List ℕ) → line ≡ codes "many" ++ TAB ∷ rest → Lacks TAB part → EndsAtTab rest part
-    → (r : Option ℕ) → MatchOption r ((n : ℕ) → IsDecimal part n → ¬ (n < 2 ^ 32)) (λ n. IsDecimal part n × (n < 2 ^ 32))
+    → (r : Option ℕ) → MatchOption r ((n : ℕ) → IsDecimalText part n → ¬ (n < 2 ^ 32)) (λ n. IsDecimalText part n × (n < 2 ^ 32))
     → MatchOption r ((n : ℕ) → ¬ IsBlockLine line n) (λ n. IsBlockLine line n × ((m : ℕ) → IsBlockLine line m → m ≡ n))
 block_size_is line rest part e lacks ends None none = λ n b.
     let d = digits_are line rest part n e lacks ends b in none n d.0 d.1

@@ -12,11 +12,11 @@ use Rattle.dict_value.specs.declared.letters.TheConstants.{BACKSLASH, CARRIAGE_R
 use Rattle.dict_value.specs.declared.value.Field.{Field}
 use Rattle.dict_value.specs.declared.value.Field.TheVariants.{Null, Text}
 use Rattle.row_text.specs.Marks.{Mark, bare, escaped, hex, IsMark, Spells, meant_byte, spelled}
-use Rattle.row_text.specs.TabRow.{IsTabRow, field_of, is_null, is_return, is_tab}
+use Rattle.row_text.specs.TabRow.{IsTabRow, field_of, are_null_marks, is_return, is_tab}
 use Rattle.wire_text.specs.Requests.{AsksFor, IsRequest}
 use Rattle.wire_text.specs.declared.request.Request.{Request}
 use Rattle.wire_text.specs.declared.request.Request.TheVariants as request
-use Rattle.wire_text.specs.steps.Heads.{escape_meant, hex_byte, first_meant, goes_on, hex_meant, is_none_left, means}
+use Rattle.wire_text.specs.steps.Heads.{escape_meant, hex_byte, first_meant, goes_on_behind, hex_meant, is_none_left, means}
 
 -- ---- marks are found, one after another
 
@@ -32,7 +32,7 @@ first_found (bare b) rest is = rw (ne_eqb b BACKSLASH is) refl
 first_found (escaped b) rest is = rw (ne_eqb b LETTER_X is) refl
 first_found (hex high low) rest is = hex_found (hex_digit high) (hex_digit low) rest is.0 is.1
 
-goes_same : (passes : List ℕ → Bool) (b : ℕ) (rest : List ℕ) → goes_on passes b (Some (b, rest)) ≡ passes rest
+goes_same : (passes : List ℕ → Bool) (b : ℕ) (rest : List ℕ) → goes_on_behind passes b (Some (b, rest)) ≡ passes rest
 goes_same passes b rest = rw (eq-eqb b b refl) refl
 
 -- marks mean their bytes
@@ -40,7 +40,7 @@ marks_mean : (marks : List Mark) → AllByRecursion IsMark marks → means (flat
 marks_mean [] valid = refl
 marks_mean (m ∷ marks) valid =
     let passes : List ℕ → Bool = λ rest. means rest (map meant_byte marks) in
-    ap (goes_on passes (meant_byte m)) (first_found m (flat_map spelled marks) valid.0)
+    ap (goes_on_behind passes (meant_byte m)) (first_found m (flat_map spelled marks) valid.0)
     ∙ goes_same passes (meant_byte m) (flat_map spelled marks) ∙ marks_mean marks valid.1
 
 -- ---- what is found is a mark
@@ -114,7 +114,7 @@ meant_same text b c behind word passes true is found rest e =
     }
 
 meant_more : (text : List ℕ) (b : ℕ) (word : List ℕ) (passes : List ℕ → Bool) (o : Option (ℕ × List ℕ)) → Finds text o
-    → ((rest : List ℕ) → passes rest ≡ true → Meant rest word) → goes_on passes b o ≡ true → Meant text (b ∷ word)
+    → ((rest : List ℕ) → passes rest ≡ true → Meant rest word) → goes_on_behind passes b o ≡ true → Meant text (b ∷ word)
 meant_more text b word passes None found rest e = absurd (true≢false (sym e))
 meant_more text b word passes (Some (c, behind)) found rest e = meant_same text b c behind word passes (c == b) refl found rest e
 
@@ -166,7 +166,7 @@ one_field : (ms : List Mark) (text : List ℕ) (parts : List (List Mark)) → sl
 one_field ms text [] e f = let none : [] ≡ Text text ∷ [] = f in absurd (cc)
 one_field ms text (g ∷ []) e f =
     let is : field_of g ≡ Text text = cc in
-    ap (map meant_byte) (sym (one_part ms g e)) ∙ field_is g text (is_null g) is
+    ap (map meant_byte) (sym (one_part ms g e)) ∙ field_is g text (are_null_marks g) is
 one_field ms text (g ∷ k ∷ parts) e f = let more : field_of g ∷ field_of k ∷ map field_of parts ≡ Text text ∷ [] = f in absurd (cc)
 
 -- ---- marks of the word
@@ -181,7 +181,7 @@ no_return (bare c) b e other = ne_eqb c CARRIAGE_RETURN (λ f. other (sym e ∙ 
 no_return (escaped c) b e other = refl
 no_return (hex high low) b e other = refl
 
-long_not_null : (m n : Mark) (ms : List Mark) → is_null (m ∷ n ∷ ms) ≡ false
+long_not_null : (m n : Mark) (ms : List Mark) → are_null_marks (m ∷ n ∷ ms) ≡ false
 long_not_null (bare b) n ms = refl
 long_not_null (escaped b) n ms = refl
 long_not_null (hex high low) n ms = refl
@@ -284,8 +284,8 @@ quits line false e = λ r.
 -- ---- a word is compared byte by byte
 
 means_at : (rest word : List ℕ) (i : ℕ) → i < length word
-    → means rest (drop i word) ≡ goes_on (λ r. means r (drop (i + 1) word)) (get_or word i 0) (first_meant rest)
+    → means rest (drop i word) ≡ goes_on_behind (λ r. means r (drop (i + 1) word)) (get_or word i 0) (first_meant rest)
 means_at rest word i within = at_drop_more (means rest) word i 0 within
 
 pub means_none : (rest word : List ℕ) (i : ℕ) → i < length word → first_meant rest ≡ None → means rest (drop i word) ≡ false
-means_none rest word i within e = means_at rest word i within ∙ ap (goes_on (λ r. means r (drop (i + 1) word)) (get_or word i 0)) e
+means_none rest word i within e = means_at rest word i within ∙ ap (goes_on_behind (λ r. means r (drop (i + 1) word)) (get_or word i 0)) e

@@ -10,7 +10,7 @@ use Rattle.dict_value.specs.declared.value.Field.TheVariants.{Null, Text}
 use Rattle.row_text.proofs.OneReading.{one-row}
 use Rattle.row_text.proofs.Tabled.{same-rows}
 use Rattle.row_text.specs.TabRow.{IsTabRow, TabAnswers}
-use Rattle.wire_text.specs.Numbers.{IsDecimal}
+use Rattle.wire_text.specs.Numbers.{IsDecimalText}
 use Rattle.wire_text.specs.Requests.{asked_above}
 use Rattle.wire_text.specs.steps.Asked.{AsksBelow, ReadsBy, RowRead, RowsRead, request_fault}
 use Rattle.wire_text.specs.steps.Fields.{text_first}
@@ -57,7 +57,7 @@ text_stands (Text t ∷ fields) rest text e = ap fields_back e
 
 -- a name, a key and a level are one request
 pub below_reads : (fields keys : List Field) (name digits : List ℕ) (key : Field) (level : ℕ) (answer : Result Request RequestFault)
-    → fields ≡ Text name ∷ key ∷ Text digits ∷ [] → keys ≡ key ∷ [] → IsDecimal digits level → level < 2 ^ 32
+    → fields ≡ Text name ∷ key ∷ Text digits ∷ [] → keys ≡ key ∷ [] → IsDecimalText digits level → level < 2 ^ 32
     → ReadsBy (λ r. r ≡ asked_above verb.Descendants name keys level) answer → ReadsBy (AsksBelow fields) answer
 below_reads fields keys name digits key level (Ok r) e k number small read =
     (name, key, digits, level, e, number, small, read ∙ ap (λ (f : List Field). asked_above verb.Descendants name f level) k)

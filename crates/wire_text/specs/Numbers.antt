@@ -11,7 +11,7 @@ begins_with_zero (b ∷ []) = false
 begins_with_zero (b ∷ digit ∷ digits) = b == DIGIT_0
 
 -- the text writes this number, which has 64 bits
-pub record IsDecimal (text : List ℕ) (number : ℕ) : Type 0 where
+pub record IsDecimalText (text : List ℕ) (number : ℕ) : Type 0 where
   pub digits : IsDigits text
   pub plain : begins_with_zero text ≡ false
   pub value : number ≡ digits_value 10 text

@@ -5,7 +5,7 @@ use Rattle.dict_value.specs.declared.letters.TheConstants.{LINE_FEED}
 use Rattle.dict_value.specs.declared.value.Field.{Field}
 use Rattle.dict_value.specs.declared.value.Field.TheVariants.{Text}
 use Rattle.row_text.specs.TabRow.{IsTabRow}
-use Rattle.wire_text.specs.Requests.{IsBlockLine, IsLookup, IsRequest, LinesAfter}
+use Rattle.wire_text.specs.Requests.{IsBlockLine, IsVerbHead, IsRequest, LinesAfter}
 use Rattle.wire_text.specs.declared.lines.TheConstants.{MOST_BLOCK_BYTES, MOST_BLOCK_LINES, MOST_LINE_BYTES}
 use Rattle.wire_text.specs.declared.lines.TheConstants.{MOST_REQUESTS}
 use Rattle.wire_text.specs.declared.request.Request.{Request}
@@ -59,7 +59,7 @@ pub record IsBlockHead (line : List ℕ) : Type 0 where
   pub fallback : Field
   pub fields : IsTabRow line (Text (codes "many") ∷ count ∷ head)
   pub block : IsBlockLine line size
-  pub lookup : IsLookup head verb name attribute fallback
+  pub lookup : IsVerbHead head verb name attribute fallback
 
 -- A request that is too large is examined by its first line alone. Any other has no reading also where lines lack.
 pub data HeardOf (first : List ℕ) (more : List (List ℕ)) (count : ℕ) (behind rest : List ℕ) : Heard → Type 0 where

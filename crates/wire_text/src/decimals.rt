@@ -1,6 +1,6 @@
 // Decimal numbers as a request writes them.
 ghost use Rattle.std.specs.Prelude.{◌≡◌, ℕ, MatchOption};
-ghost use Rattle.wire_text.specs.Numbers.{IsDecimal, begins_with_zero};
+ghost use Rattle.wire_text.specs.Numbers.{IsDecimalText, begins_with_zero};
 
 use dict_value::letters::DIGIT_0;
 use dict_value::read_digits;
@@ -17,7 +17,7 @@ fn begins_with_zero(text: &[u8]) -> bool
 
 /// The number of 64 bits that a text writes: `0`, or digits that don't begin with `0`.
 pub fn read_decimal(text: &[u8]) -> Option<u64>
-    ensures { MatchOption result ((n : ℕ) → ¬ IsDecimal text.now n) (λ n. IsDecimal text.now n) }
+    ensures { MatchOption result ((n : ℕ) → ¬ IsDecimalText text.now n) (λ n. IsDecimalText text.now n) }
 {
     if begins_with_zero(text) {
         None

@@ -1,6 +1,6 @@
 // How many lines belong to a request.
 ghost use Rattle.std.specs.Prelude.{◌≡◌, ◌⊎◌, ◌≢◌, ◌++◌, ◌∷◌, ◌<◌, ◌^◌, ℕ, List, MatchOption, codes};
-ghost use Rattle.wire_text.specs.Numbers.{IsDecimal};
+ghost use Rattle.wire_text.specs.Numbers.{IsDecimalText};
 ghost use Rattle.wire_text.specs.Requests.{IsBlockLine, LinesAfter};
 ghost use Rattle.dict_value.specs.Split.{Lacks};
 
@@ -33,8 +33,8 @@ fn first_part(text: &[u8]) -> &[u8]
 
 /// The number of 32 bits that a text writes.
 pub(crate) fn count_in(text: &[u8]) -> Option<u32>
-    ensures { MatchOption result ((n : ℕ) → IsDecimal text.now n → ¬ (n < 2 ^ 32))
-        (λ n. IsDecimal text.now n × (n < 2 ^ 32)) }
+    ensures { MatchOption result ((n : ℕ) → IsDecimalText text.now n → ¬ (n < 2 ^ 32))
+        (λ n. IsDecimalText text.now n × (n < 2 ^ 32)) }
 {
     match read_decimal(text) {
         Some(number) if number <= u64::from(u32::MAX) => Some(number as u32),

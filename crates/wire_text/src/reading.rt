@@ -1,9 +1,11 @@
 // Requests, read from their lines.
-ghost use Rattle.std.specs.Prelude.{◌≡◌, ◌≢◌, ◌≤◌, ◌∷◌, [], ℕ, List, All, Result, Ok, Err, Some, None, MatchOption, length};
+ghost use Rattle.std.specs.Prelude.{◌≡◌, ◌≢◌, ◌≤◌, ◌∷◌, [], ℕ, List, All, Result, Ok, Err, Some, None, MatchOption};
+ghost use Rattle.std.specs.Prelude.{length};
 ghost use Rattle.dict_value.specs.declared.value.Field.TheVariants.{Text};
 ghost use Rattle.wire_text.specs.Requests.{AsksFor, IsRequest, asked_above};
 ghost use Rattle.dict_value.specs.Memory.{UnlessNoMemory};
-ghost use Rattle.wire_text.specs.steps.Asked.{AsksAbove, AsksAfter, AsksBelow, AsksBlock, AsksBy, AsksLookup, IsBare};
+ghost use Rattle.wire_text.specs.steps.Asked.{AsksAbove, AsksAfter, AsksBelow, AsksBlock, AsksBy, AsksLookup};
+ghost use Rattle.wire_text.specs.steps.Asked.{IsBareWord};
 ghost use Rattle.wire_text.specs.steps.Asked.{IsNaming, ReadsBy, RowRead, RowsRead, head_in, request_fault};
 ghost use Rattle.wire_text.specs.declared.request.Request.{Request};
 ghost use Rattle.wire_text.specs.steps.Fields.{attribute_in, default_in, lookup_in, plain_in, text_first};
@@ -228,7 +230,7 @@ fn read_named(word: Word, fields: Fields) -> Result<Request, RequestFault>
 
 /// A word alone.
 fn read_bare(word: Word, fields: &Fields) -> Result<Request, RequestFault>
-    requires { IsBare word }
+    requires { IsBareWord word }
     ensures { ReadsBy (AsksBy word fields.now) result }
 {
     if !fields.is_empty() {

@@ -1,6 +1,6 @@
 // The first field of a request.
 ghost use Rattle.std.specs.Prelude.{◌≡◌};
-ghost use Rattle.wire_text.specs.steps.Fields.{lookup_word_in, word_in};
+ghost use Rattle.wire_text.specs.steps.Fields.{lookup_word_in, request_word};
 
 /// The words that a request can begin with, and those that can follow the number of a block.
 #[derive(Clone, Copy, Debug, PartialEq, Eq)]
@@ -52,7 +52,7 @@ fn lookup_word(text: &[u8]) -> Option<Word>
 
 /// The word of a request that a text spells.
 pub(crate) fn read_word(text: &[u8]) -> Option<Word>
-    ensures { result ≡ word_in text.now }
+    ensures { result ≡ request_word text.now }
 {
     if text == b"many".as_slice() {
         Some(Word::Many)

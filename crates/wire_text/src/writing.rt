@@ -3,7 +3,8 @@ ghost use Rattle.std.specs.Prelude.{◌≡◌, ◌++◌, codes, decimal, length,
 ghost use Rattle.std.specs.List.{flat_map};
 ghost use Rattle.wire_text.specs.Causes.{call_cause, fetch_cause, load_cause};
 ghost use Rattle.wire_text.specs.Causes.{call_lacks_memory, fetch_lacks_memory, load_lacks_memory};
-ghost use Rattle.wire_text.specs.Replies.{block_line, caused, counts_fields, fault_fields, last_cause_text, lines_behind};
+ghost use Rattle.wire_text.specs.Replies.{block_line, caused, counts_fields, fault_fields, last_cause_text};
+ghost use Rattle.wire_text.specs.Replies.{lines_behind};
 ghost use Rattle.wire_text.specs.Replies.{mark_text, refused_text, reply_fields, reply_text, state_name, status_fields};
 ghost use Rattle.wire_text.specs.Replies.{then_field};
 

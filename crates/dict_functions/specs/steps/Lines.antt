@@ -1,5 +1,6 @@
 -- What is made of the lines of a lookup, and what their faults mean.
-use Rattle.std.specs.Prelude.{◌≡◌, ◌∷◌, ◌<◌, [], ℕ, zero, suc, List, Bool, true, false, Option, Some, None, IfSome, Result, MatchResult, ⊤}
+use Rattle.std.specs.Prelude.{◌≡◌, ◌∷◌, ◌<◌, [], ℕ, zero, suc, List, Bool, true, false, Option, Some, None, IfSome}
+use Rattle.std.specs.Prelude.{Result, MatchResult, ⊤}
 use Rattle.std.specs.Prelude.{decimal, length, slice_get}
 use Rattle.std.specs.List.{AllZip}
 use Rattle.dict_schema.specs.Sound.{IsSound}
@@ -13,7 +14,7 @@ use Rattle.dict_value.specs.declared.value.Value.{Value}
 use Rattle.dict_version.specs.Contents.{Contents}
 use Rattle.dict_version.specs.Keys.{NamesParent, numbers_of, parents_of}
 use Rattle.dict_version.specs.Lookups.{Finds}
-use Rattle.dict_version.specs.Printed.{StandsIn as StandsInColumn}
+use Rattle.dict_version.specs.Printed.{IsCellOf as StandsInColumn}
 use Rattle.dict_version.specs.declared.key.Key.TheVariants as key
 use Rattle.dict_version.specs.declared.lookup.LookupBy.{LookupBy}
 use Rattle.dict_version.specs.declared.lookup.LookupBy.TheVariants as by
@@ -31,7 +32,7 @@ use Rattle.dict_functions.specs.Answers.{IsLoadedLine}
 use Rattle.dict_functions.specs.Asking.{IsAttributeNamed}
 use Rattle.dict_functions.specs.Keyed.{fetched_place}
 use Rattle.dict_functions.specs.Refusals.{IsFitting, IsRefusal}
-use Rattle.dict_functions.specs.Values.{AnswersVerb, IsAttributeText, IsCellText, StandsIn}
+use Rattle.dict_functions.specs.Values.{AnswersVerb, IsAttributeText, IsCellText, IsCellOf}
 use Rattle.dict_functions.specs.declared.asking.Attribute.{Attribute}
 use Rattle.dict_functions.specs.declared.lines.LineFault.{LineFault}
 use Rattle.dict_functions.specs.declared.lines.LineFault.TheVariants as one
@@ -46,8 +47,8 @@ value_fault bad.NoMemory = one.NoMemory
 value_fault _ = one.Unread
 
 -- the lines of a lookup in a version, or why it is refused
-abbrev pub Answered : Contents → Asked → Result (List Line) ReplyFault → Type 0
-Answered c q result =
+abbrev pub IsAnsweredBy : Contents → Asked → Result (List Line) ReplyFault → Type 0
+IsAnsweredBy c q result =
     MatchResult result (λ lines. IsFitting c.definition q × AllZip (IsLoadedLine c q) q.lines lines)
     (IsRefusal c.definition q)
 
@@ -62,7 +63,7 @@ pub record IsAttributeOf (d : Definition) (q : Asked) (attribute : Attribute) : 
   pub column : Column
   pub value : Value
   pub named : IsAttributeNamed d q.attribute attribute.place column
-  pub stands : StandsIn q.verb column q.fallback value
+  pub stands : IsCellOf q.verb column q.fallback value
   pub missing : attribute.missing ≡ printed column.ty.base value
 
 -- the attribute that is asked for, its column, and its place in a fetched row

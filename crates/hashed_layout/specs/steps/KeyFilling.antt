@@ -4,15 +4,15 @@ use Rattle.std.specs.Prelude.{length, slice_get, slice_index}
 use Rattle.dict_value.specs.FindByKey.{HasKeyAt}
 use Rattle.dict_value.specs.declared.value.Value.{Value}
 use Rattle.hashed_layout.specs.KeyBytes.{BeginsWithKey}
-use Rattle.hashed_layout.specs.KeyTables.{key_held, key_home, number_at, number_in, start_of, tag_in, tag_of}
+use Rattle.hashed_layout.specs.KeyTables.{key_held, key_home, number_at, number_below_tag, entry_start, tag_in, tag_of}
 use Rattle.hashed_layout.specs.Probing.{IsMet, probed}
 use Rattle.hashed_layout.specs.declared.complex.Entry.{Entry}
 
 -- the cell has the key's tag, and the entry of its number the key's bytes
 abbrev pub TellsKey : List Entry → List ℕ → List Value → ℕ → Type 0
 TellsKey entries bytes key cell =
-    (tag_in cell ≡ tag_of key) × (entry : Entry) × (slice_get entries (number_in cell - 1) ≡ Some entry)
-    × BeginsWithKey (drop (start_of entry) bytes) key
+    (tag_in cell ≡ tag_of key) × (entry : Entry) × (slice_get entries (number_below_tag cell - 1) ≡ Some entry)
+    × BeginsWithKey (drop (entry_start entry) bytes) key
 
 -- the cell of the table has another key
 abbrev pub Skips : List Entry → List ℕ → List ℕ → List Value → ℕ → Type 0
@@ -55,7 +55,7 @@ pub record IsKeyTableTo (keys : List (List Value)) (count : ℕ) (bytes : List �
   pub few : length entries ≤ count
   pub stored : (n : ℕ) (key : List Value) (entry : Entry) → slice_get distinct n ≡ Some key
       → slice_get entries n ≡ Some entry
-      → BeginsWithKey (drop (start_of entry) bytes) key × IsLeastOf keys count key entry.place
+      → BeginsWithKey (drop (entry_start entry) bytes) key × IsLeastOf keys count key entry.place
   pub numbered : (i : ℕ) → i < length cells → number_at cells i ≤ length distinct
   pub tagged : (i : ℕ) (key : List Value) → key_held distinct cells i ≡ Some key
       → tag_in (slice_index cells i) ≡ tag_of key

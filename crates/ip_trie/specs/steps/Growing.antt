@@ -1,13 +1,14 @@
 -- How a trie grows by a row.
-use Rattle.std.specs.Prelude.{◌≡◌, ◌≢◌, ◌+◌, ◌-◌, ◌<◌, ◌≤◌, ◌⊎◌, ◌++◌, ℕ, Bool, List, length, replicate, slice_index_or, slice_set}
-use Rattle.ip_trie.specs.Cells.{blank, next_at, row_at}
+use Rattle.std.specs.Prelude.{◌≡◌, ◌≢◌, ◌+◌, ◌-◌, ◌<◌, ◌≤◌, ◌⊎◌, ◌++◌, ℕ, Bool, List, length, replicate}
+use Rattle.std.specs.Prelude.{slice_index_or, slice_set}
+use Rattle.ip_trie.specs.Cells.{blank, next_at, cell_row}
 use Rattle.ip_trie.specs.Cells.{IsTrie, leaf_at, node}
 use Rattle.ip_trie.specs.declared.cells.Cell.{Cell}
 use Rattle.ip_trie.specs.declared.cells.Leaf.{Leaf}
 
 -- the cells below a cell: those that are there, or 16 new ones
-abbrev pub Grows : List Cell → ℕ → List Cell → ℕ → Type 0
-Grows old at new start =
+abbrev pub GrowsCells : List Cell → ℕ → List Cell → ℕ → Type 0
+GrowsCells old at new start =
     ((next_at old at ≢ 0) × (new ≡ old) × (start ≡ next_at old at))
     ⊎ ((next_at old at ≡ 0) × (start ≡ length old)
     × (new ≡ slice_set (old ++ replicate 16 blank) at (record (slice_index_or old at blank) { next = length old })))
@@ -22,8 +23,8 @@ IsBettered leaves row old new =
 pub record AreBettered (leaves : List Leaf) (row start end : ℕ) (old new : List Cell) : Type 0 where
   pub len : length new ≡ length old
   pub nexts : (i : ℕ) → next_at new i ≡ next_at old i
-  pub inside : (i : ℕ) → start ≤ i → i < end → IsBettered leaves row (row_at old i) (row_at new i)
-  pub outside : (i : ℕ) → (i < start) ⊎ (end ≤ i) → row_at new i ≡ row_at old i
+  pub inside : (i : ℕ) → start ≤ i → i < end → IsBettered leaves row (cell_row old i) (cell_row new i)
+  pub outside : (i : ℕ) → (i < start) ⊎ (end ≤ i) → cell_row new i ≡ cell_row old i
 
 -- the way of the next row is there up to a level
 pub record IsGrown (leaves : List Leaf) (v6 : Bool) (row level start : ℕ) (cells : List Cell) : Type 0 where

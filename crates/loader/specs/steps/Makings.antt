@@ -88,7 +88,7 @@ pub record RunsVersion {C : Type 0} (runs : Running) (ran : Ran) (d : Definition
   pub given : IsGiven ran d words former (concat pieces) ending result
 
 -- or memory ran out before that
-abbrev pub IsLoaded : {C : Type 0} → Running → Type 0 → Ran → Definition → List (List ℕ) → RowList
+abbrev pub IsLoadedBy : {C : Type 0} → Running → Type 0 → Ran → Definition → List (List ℕ) → RowList
     → Result (Made C) LoadFault → Type 0
-IsLoaded runs same ran d words former result =
+IsLoadedBy runs same ran d words former result =
     RunsVersion runs ran d words former result ⊎ (same × (result ≡ Err NoMemory))

@@ -26,6 +26,6 @@ pub record IsBetween (types : List AttrType) (b : Building) : Type 0 where
   pub none_open : b.open_row ≡ []
 
 -- the row at a place, where there is one, was added
-abbrev pub AddsRow : Building → RowList → ℕ → Building → Type 0
-AddsRow old rows place new =
+abbrev pub AddsRowAt : Building → RowList → ℕ → Building → Type 0
+AddsRowAt old rows place new =
     IfSome (slice_get rows place) (λ row. new ≡ record old { rows = old.rows ++ row ∷ [] })

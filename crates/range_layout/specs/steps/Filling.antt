@@ -6,8 +6,8 @@ use Rattle.range_layout.specs.Points.{nth_point}
 use Rattle.range_layout.specs.declared.index.Span.{Span}
 
 -- the number of the key of a border in a list of borders, and its point
-abbrev pub number_at : List ℕ → ℕ → ℕ
-number_at borders i = slice_index borders i / 2 ^ 32
+abbrev pub border_number : List ℕ → ℕ → ℕ
+border_number borders i = slice_index borders i / 2 ^ 32
 
 abbrev pub point_at : List ℕ → List ℕ → ℕ → ℕ
 point_at points borders i = nth_point points (slice_index borders i % 2 ^ 32)
@@ -57,11 +57,11 @@ AddsEdge start point winner edges winners new_edges new_winners =
 pub record AreKeyBorders (borders : List ℕ) (number from to : ℕ) : Type 0 where
   pub order : from ≤ to
   pub within : to ≤ length borders
-  pub same : (i : ℕ) → from ≤ i → i < to → number_at borders i ≡ number
-  pub all : (i : ℕ) → i < length borders → number_at borders i ≡ number → (from ≤ i) × (i < to)
+  pub same : (i : ℕ) → from ≤ i → i < to → border_number borders i ≡ number
+  pub all : (i : ℕ) → i < length borders → border_number borders i ≡ number → (from ≤ i) × (i < to)
 
 -- the first numbers of a list stay as they are
-pub record Keeps (old new : List ℕ) : Type 0 where
+pub record KeepsFirst (old new : List ℕ) : Type 0 where
   pub len : length old ≤ length new
   pub same : (i : ℕ) → i < length old → slice_index new i ≡ slice_index old i
 

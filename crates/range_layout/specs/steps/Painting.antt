@@ -1,10 +1,10 @@
 -- How borders are painted with rows.
 use Rattle.std.specs.Prelude.{◌≡◌, ◌≢◌, ◌+◌, ◌%◌, ◌^◌, ◌<◌, ◌≤◌, ◌⊎◌, ℕ, List, length, slice_index}
-use Rattle.range_layout.specs.Stretches.{Covers, end_of, start_of}
+use Rattle.range_layout.specs.Stretches.{Covers, end_of, stretch_start}
 use Rattle.range_layout.specs.declared.stretches.Stretch.{Stretch}
 
 -- each place leads to itself or to a later one
-pub record Leads (next : List ℕ) : Type 0 where
+pub record LeadsOn (next : List ℕ) : Type 0 where
   pub on : (i : ℕ) → i < length next → i ≤ slice_index next i
   pub within : (i : ℕ) → i < length next → slice_index next i < length next
 
@@ -28,10 +28,11 @@ pub record IsOnePainted (row at : ℕ) (old new : List ℕ) : Type 0 where
 pub record IsPainted (borders : List ℕ) (stretch : Stretch) (row : ℕ) (old new : List ℕ) : Type 0 where
   pub len : length new ≡ length old
   pub kept : (i : ℕ) → slice_index old i ≢ 0 → slice_index new i ≡ slice_index old i
-  pub here : (i : ℕ) → i < length borders → slice_index old i ≡ 0 → start_of stretch ≤ slice_index borders i
+  pub here : (i : ℕ) → i < length borders → slice_index old i ≡ 0 → stretch_start stretch ≤ slice_index borders i
       → slice_index borders i < end_of stretch → slice_index new i ≡ row + 1
   pub others : (i : ℕ) → i < length borders → slice_index old i ≡ 0
-      → (slice_index borders i < start_of stretch) ⊎ (end_of stretch ≤ slice_index borders i) → slice_index new i ≡ 0
+      → (slice_index borders i < stretch_start stretch) ⊎ (end_of stretch ≤ slice_index borders i)
+      → slice_index new i ≡ 0
 
 -- the places from one on to another have been gone over
 pub record IsPaintedTo (borders : List ℕ) (stretch : Stretch) (row start at : ℕ) (old new : List ℕ) : Type 0 where

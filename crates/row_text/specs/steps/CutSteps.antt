@@ -13,10 +13,10 @@ IsWithin piece (found.Row place) = place < length piece
 IsWithin piece (found.Inside inside) = Unit {0}
 
 -- behind these bytes of a row
-abbrev pub Finds : CutRule → List ℕ → List ℕ → Found → Type 0
-Finds rule row piece (found.Row place) =
+abbrev pub FindsEnd : CutRule → List ℕ → List ℕ → Found → Type 0
+FindsEnd rule row piece (found.Row place) =
     (place < length piece) × (slice_index piece place ≡ LINE_FEED) × IsWhole rule (row ++ take place piece)
-Finds rule row piece (found.Inside inside) = IsOpen rule (row ++ piece) × (inside ≡ keeps_open rule (row ++ piece))
+FindsEnd rule row piece (found.Inside inside) = IsOpen rule (row ++ piece) × (inside ≡ keeps_open rule (row ++ piece))
 
 -- the text begins with this line and its line feed, so many bytes together
 abbrev pub BeginsWithLine : CutRule → List ℕ → List ℕ → ℕ → Type 0

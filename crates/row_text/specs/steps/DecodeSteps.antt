@@ -1,5 +1,6 @@
 -- What the steps of decoding a text find.
-use Rattle.std.specs.Prelude.{◌≡◌, ◌<◌, ◌⊎◌, ◌∷◌, ◌++◌, [], ◌+◌, true, false, ℕ, List, length, map, Option, Some, None, Result, Ok, Err}
+use Rattle.std.specs.Prelude.{◌≡◌, ◌<◌, ◌⊎◌, ◌∷◌, ◌++◌, [], ◌+◌, true, false, ℕ, List, length, map, Option, Some}
+use Rattle.std.specs.Prelude.{None, Result, Ok, Err}
 use Rattle.dict_value.specs.declared.fault.LineFault.{LineFault}
 use Rattle.dict_value.specs.declared.fault.LineFault.TheVariants as line_fault
 use Rattle.dict_value.specs.declared.fault.Why.{Why}
@@ -55,8 +56,8 @@ fault_at number (no_row.Bad column reason) = decode.Bad (record { line = number;
 fault_at number no_row.NoMemory = decode.NoMemory
 
 -- a row may follow so many rows as these
-abbrev pub HasRoom : List (List Value) → Type 0
-HasRoom rows = length rows < MOST_ROWS
+abbrev pub HasRowRoom : List (List Value) → Type 0
+HasRowRoom rows = length rows < MOST_ROWS
 
 -- the rows with that of one more line behind them
 abbrev pub AddsRow : Format → List Reader → List ℕ → List (List Value) → List (List Value) → Type 0
@@ -66,11 +67,11 @@ AddsRow format columns line old new =
 -- the rows after one more line: its row comes to them where it is one
 abbrev pub AddsLine : Format → List Reader → List ℕ → List (List Value) → List (List Value) → Type 0
 AddsLine format columns line old new = ((is_row_line format line ≡ false) × (new ≡ old))
-    ⊎ ((is_row_line format line ≡ true) × HasRoom old × AddsRow format columns line old new)
+    ⊎ ((is_row_line format line ≡ true) × HasRowRoom old × AddsRow format columns line old new)
 
 -- why the line of this number brings no row behind these
 abbrev pub LineFails : Format → List Reader → List ℕ → ℕ → List (List Value) → DecodeFault → Type 0
-LineFails format columns line number old (decode.Bad bad) = (is_row_line format line ≡ true) × HasRoom old
+LineFails format columns line number old (decode.Bad bad) = (is_row_line format line ≡ true) × HasRowRoom old
     × (bad.line ≡ number) × IsBadLine format columns line bad.column bad.why
 LineFails format columns line number old decode.TooMany = (is_row_line format line ≡ true) × (length old ≡ MOST_ROWS)
 LineFails format columns line number old decode.NoMemory = ⊥

@@ -1,5 +1,6 @@
 -- What the steps of taking a row find whose values go from the text into the packs.
-use Rattle.std.specs.Prelude.{◌≡◌, ◌≢◌, ◌≤◌, ◌<◌, ◌∷◌, ◌++◌, [], true, ℕ, suc, List, length, map, take, drop, slice_get, slice_index, Some, Ok}
+use Rattle.std.specs.Prelude.{◌≡◌, ◌≢◌, ◌≤◌, ◌<◌, ◌∷◌, ◌++◌, [], true, ℕ, suc, List, length, map, take, drop}
+use Rattle.std.specs.Prelude.{slice_get, slice_index, Some, Ok}
 use Rattle.std.specs.List.{AllByRecursion, flat_map}
 use Rattle.dict_value.specs.declared.letters.TheConstants.{CARRIAGE_RETURN, COMMA, LINE_FEED}
 use Rattle.dict_value.specs.declared.value.Field.{Field}
@@ -13,7 +14,7 @@ use Rattle.row_text.specs.Decoding.{IsTypedRow, Reader, is_row_line, readings, r
 use Rattle.row_text.specs.Marks.{Mark, bare, escaped, hex, meant_byte}
 use Rattle.row_text.specs.TabRow.{field_of}
 use Rattle.row_text.specs.steps.CsvSteps.{IsPlainText}
-use Rattle.row_text.specs.steps.TabSteps.{HasFieldsBefore, IsPlain, Reaches}
+use Rattle.row_text.specs.steps.TabSteps.{HasFieldsBefore, IsOrdinary, ReachesUntabbed}
 
 -- the value of a field at the next column comes to the values
 abbrev pub AddsValue : List Reader → Field → List Value → List Value → Type 0
@@ -45,7 +46,7 @@ pub record TakesRow
 
 -- a byte of TabSeparated text that ends no field, no line, and begins no escape
 abbrev pub IsQuiet : ℕ → Type 0
-IsQuiet b = IsPlain b × (b ≢ LINE_FEED)
+IsQuiet b = IsOrdinary b × (b ≢ LINE_FEED)
 
 -- so many quiet bytes stand before this one
 abbrev pub EndsPiece : List ℕ → ℕ → ℕ → Type 0
@@ -64,7 +65,7 @@ EndsNoLine (hex high low) = Unit {0}
 
 -- the text begins with these marks of a field, and this byte stands behind them
 pub record FrontMarks (text : List ℕ) (size byte : ℕ) (marks : List Mark) : Type 0 where
-  pub reaches : Reaches text size marks
+  pub reaches : ReachesUntabbed text size marks
   pub unended : AllByRecursion EndsNoLine marks
   pub below : size < length text
   pub here : slice_index text size ≡ byte

@@ -10,11 +10,11 @@ use Rattle.row_text.specs.Marks.{Mark, IsBadEscape, Spells, meant_byte}
 use Rattle.row_text.specs.TabRow.{EndsInReturn, ends_in_return, field_of, fields_of, is_tab}
 
 -- a byte that ends no field and begins no escape
-abbrev pub IsPlain : ℕ → Type 0
-IsPlain b = (b ≢ TAB) × (b ≢ BACKSLASH)
+abbrev pub IsOrdinary : ℕ → Type 0
+IsOrdinary b = (b ≢ TAB) × (b ≢ BACKSLASH)
 
 -- these marks are the bytes before a place, and none is a tab
-pub record Reaches (rest : List ℕ) (place : ℕ) (marks : List Mark) : Type 0 where
+pub record ReachesUntabbed (rest : List ℕ) (place : ℕ) (marks : List Mark) : Type 0 where
   pub within : place ≤ length rest
   pub spells : Spells (take place rest) marks
   pub untabbed : AllByRecursion (λ m. is_tab m ≡ false) marks
@@ -24,11 +24,11 @@ abbrev pub EscapeOf : List ℕ → Option (ℕ × ℕ) → Type 0
 EscapeOf text None = IsBadEscape text
 EscapeOf text (Some escape) =
     (mark : Mark) × (escape.0 ≡ meant_byte mark) × (escape.1 ≤ length text) × (ends_in_return (mark ∷ []) ≡ false)
-    × Reaches text escape.1 (mark ∷ [])
+    × ReachesUntabbed text escape.1 (mark ∷ [])
 
 -- a field begins at the start of the text and ends at this place
 abbrev pub FieldOf : List ℕ → Field → ℕ → Type 0
-FieldOf rest field stop = (marks : List Mark) × Reaches rest stop marks × (field ≡ field_of marks)
+FieldOf rest field stop = (marks : List Mark) × ReachesUntabbed rest stop marks × (field ≡ field_of marks)
     × (stop < length rest → slice_index rest stop ≡ TAB) × (stop ≡ length rest → ends_in_return marks ≡ false)
 
 -- the first bad escape of a text that stands at this place of its line

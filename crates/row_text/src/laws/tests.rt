@@ -1,4 +1,6 @@
-use crate::{decoding_goes_on, one_decoding, one_list_of_lines, one_reading, one_table, written_tables};
+use crate::{
+    decoding_goes_on, one_decoding, one_list_of_lines, one_reading, one_table, written_tables,
+};
 
 #[test]
 fn laws() {

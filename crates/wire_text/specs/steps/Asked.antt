@@ -7,9 +7,9 @@ use Rattle.dict_value.specs.declared.fault.LineFault.TheVariants as fault
 use Rattle.dict_value.specs.declared.value.Field.{Field}
 use Rattle.dict_value.specs.declared.value.Field.TheVariants.{Text}
 use Rattle.row_text.specs.TabRow.{IsTabRow}
-use Rattle.wire_text.specs.Numbers.{IsDecimal}
+use Rattle.wire_text.specs.Numbers.{IsDecimalText}
 use Rattle.wire_text.specs.Requests.{IsBlockLine, asked_above, asked_of}
-use Rattle.wire_text.specs.steps.Fields.{lookup_in, text_first, word_in}
+use Rattle.wire_text.specs.steps.Fields.{lookup_in, text_first, request_word}
 use Rattle.wire_text.specs.declared.reading.Lookup.{Lookup}
 use Rattle.wire_text.specs.declared.request.Request.{Request}
 use Rattle.wire_text.specs.declared.request.Request.TheVariants as request
@@ -34,7 +34,7 @@ AsksAbove verb count fields r = (name : List ℕ) × (keys : List Field)
 -- a name, a key and a level
 abbrev pub AsksBelow : List Field → Request → Type 0
 AsksBelow fields r = (name : List ℕ) × (key : Field) × (digits : List ℕ) × (level : ℕ)
-    × (fields ≡ Text name ∷ key ∷ Text digits ∷ []) × IsDecimal digits level × (level < 2 ^ 32)
+    × (fields ≡ Text name ∷ key ∷ Text digits ∷ []) × IsDecimalText digits level × (level < 2 ^ 32)
     × (r ≡ asked_above verb.Descendants name (key ∷ []) level)
 
 -- a name alone
@@ -44,7 +44,7 @@ AsksNamed make fields r = (name : List ℕ) × (fields ≡ Text name ∷ []) × 
 -- a name and a number
 abbrev pub AsksAfter : List Field → Request → Type 0
 AsksAfter fields r = (name : List ℕ) × (digits : List ℕ) × (number : ℕ)
-    × (fields ≡ Text name ∷ Text digits ∷ []) × IsDecimal digits number × (r ≡ request.After name number)
+    × (fields ≡ Text name ∷ Text digits ∷ []) × IsDecimalText digits number × (r ≡ request.After name number)
 
 -- what the fields behind a word ask for, where no lines follow
 abbrev pub AsksBy : Word → List Field → Request → Type 0
@@ -68,7 +68,7 @@ AsksBy word.Quit fields r = (fields ≡ []) × (r ≡ request.Quit)
 -- the lookup of a block: its keys stand in lines of their own
 abbrev pub head_in : List Field → Option Lookup
 head_in fields = option_and_then (λ (first : List ℕ × List Field).
-    option_and_then (λ (w : Word). lookup_in w first.1) (word_in first.0)) (text_first fields)
+    option_and_then (λ (w : Word). lookup_in w first.1) (request_word first.0)) (text_first fields)
 
 abbrev pub AsksHead : Option Lookup → List (List Field) → Request → Type 0
 AsksHead None rows r = ⊥
@@ -97,10 +97,10 @@ IsNaming word.Status = ⊤
 IsNaming word.Show = ⊤
 IsNaming _ = ⊥
 
-abbrev pub IsBare : Word → Type 0
-IsBare word.Config = ⊤
-IsBare word.Quit = ⊤
-IsBare _ = ⊥
+abbrev pub IsBareWord : Word → Type 0
+IsBareWord word.Config = ⊤
+IsBareWord word.Quit = ⊤
+IsBareWord _ = ⊥
 
 -- what the fault of a line makes of its request
 abbrev pub request_fault : LineFault → RequestFault

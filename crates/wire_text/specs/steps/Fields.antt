@@ -23,8 +23,8 @@ lookup_word_in text =
     else if bytes_eq text (codes "dictGetDescendants") then Some word.Descendants
     else None
 
-abbrev pub word_in : List ℕ → Option Word
-word_in text =
+abbrev pub request_word : List ℕ → Option Word
+request_word text =
     if bytes_eq text (codes "many") then Some word.Many
     else if bytes_eq text (codes "reload") then Some word.Reload
     else if bytes_eq text (codes "status") then Some word.Status

@@ -1,11 +1,12 @@
 -- What the first line of a request tells by itself.
-use Rattle.std.specs.Prelude.{◌≡◌, ◌+◌, ◌*◌, ◌==◌, if◌then◌else◌, Bool, true, false, ℕ, List, [], ◌∷◌, Option, Some, None}
+use Rattle.std.specs.Prelude.{◌≡◌, ◌+◌, ◌*◌, ◌==◌, if◌then◌else◌, Bool, true, false, ℕ, List, [], ◌∷◌, Option}
+use Rattle.std.specs.Prelude.{Some, None}
 use Rattle.std.specs.Prelude.{codes, option_and_then}
 use Rattle.dict_value.specs.Escapes.{hex_digit, unescaped}
 use Rattle.dict_value.specs.declared.letters.TheConstants.{BACKSLASH, LETTER_X}
 use Rattle.dict_value.specs.declared.value.Field.{Field}
 use Rattle.dict_value.specs.declared.value.Field.TheVariants.{Text}
-use Rattle.wire_text.specs.Requests.{IsLookup}
+use Rattle.wire_text.specs.Requests.{IsVerbHead}
 use Rattle.wire_text.specs.declared.request.Verb.{Verb}
 
 -- the fields are the word of a block, a number, and a lookup without its keys
@@ -17,7 +18,7 @@ pub record IsHeadOfBlock (fields : List Field) : Type 0 where
   pub attribute : List ℕ
   pub fallback : Field
   pub whole : fields ≡ Text (codes "many") ∷ count ∷ head
-  pub lookup : IsLookup head verb name attribute fallback
+  pub lookup : IsVerbHead head verb name attribute fallback
 
 -- the byte that two hexadecimal digits give, and what stands behind them
 abbrev pub hex_byte : Option ℕ → Option ℕ → List ℕ → Option (ℕ × List ℕ)
@@ -42,11 +43,11 @@ is_none_left [] = true
 is_none_left (b ∷ rest) = false
 
 -- the byte that was found is this one, and the rest passes
-abbrev pub goes_on : (List ℕ → Bool) → ℕ → Option (ℕ × List ℕ) → Bool
-goes_on passes b None = false
-goes_on passes b (Some found) = if found.0 == b then passes found.1 else false
+abbrev pub goes_on_behind : (List ℕ → Bool) → ℕ → Option (ℕ × List ℕ) → Bool
+goes_on_behind passes b None = false
+goes_on_behind passes b (Some found) = if found.0 == b then passes found.1 else false
 
 -- the bytes that stand in the text, one after another, are those of the word
 abbrev pub means : List ℕ → List ℕ → Bool
 means text [] = is_none_left text
-means text (b ∷ word) = goes_on (λ rest. means rest word) b (first_meant text)
+means text (b ∷ word) = goes_on_behind (λ rest. means rest word) b (first_meant text)

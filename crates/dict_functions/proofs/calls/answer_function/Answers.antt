@@ -4,14 +4,14 @@ use Rattle.dict_schema.specs.declared.definition.FunctionDef.{FunctionDef}
 use Rattle.dict_value.specs.Values.{FitsColumn}
 use Rattle.dict_value.specs.declared.value.Value.{Value}
 use Rattle.wire_text.specs.declared.request.Asked.{Asked}
-use Rattle.dict_functions.specs.Calls.{AreArguments, AreGiven, IsCallLine, argument_types}
+use Rattle.dict_functions.specs.Calls.{AreCallArguments, AreGiven, IsCallLine, argument_types}
 use Rattle.dict_functions.specs.Keys.{ReadsAs}
 use Rattle.dict_functions.proofs.AskedLines.{few-lines, one-line}
 use Rattle.dict_functions.proofs.SentRows.{zip-second}
 use Rattle.dict_functions.proofs.calls.answer_function.Goals as goal
 
 -- there is a value for each line
-value-count : (f : FunctionDef) (q : Asked) (rows : List (List Value)) (values : List Value) → AreArguments f q (Ok rows)
+value-count : (f : FunctionDef) (q : Asked) (rows : List (List Value)) (values : List Value) → AreCallArguments f q (Ok rows)
     → AreGiven f rows values → length values ≡ length q.lines
 value-count f q rows values are given =
     AllZip-long (λ (row : List Value) v. FitsColumn f.returns v) rows values given

@@ -1,7 +1,7 @@
 -- The row is added, or its key is there.
 use Rattle.std.proofs.Common.{◌≡◌, ◌<◌, ◌+◌, ◌/◌, ◌%◌, ◌^◌, ◌∙◌, ℕ, List, ap, arith, length, length-append, refl, subst, sym}
 use Rattle.std.specs.Prelude.{None, Some}
-use Rattle.hashed_layout.specs.KeyTables.{key_home, number_at, number_in, tag_in, tag_of}
+use Rattle.hashed_layout.specs.KeyTables.{key_home, number_at, number_below_tag, tag_in, tag_of}
 use Rattle.hashed_layout.proofs.KeyTableLemmas.{added-key, full-keys, kept-key, number-read, row-read, stops-moved, table-moved}
 use Rattle.hashed_layout.proofs.complex.put.Goals as goal
 
@@ -24,7 +24,7 @@ returns-then-number_in-ne0-clause-table c =
     let within : at < length cells = subst (λ (z : List ℕ). at < length z) c.as_slice-3.ensures.value c.in-Some.ensures.within in
     let number = number-read cells at c.index.result.now within c.index.ensures in
     let here = row-read c.args.keys.now c.args.row key c.requires.row c.index-keys-row.is in
-    kept-key c.args.keys.now c.args.bytes.now c.args.entries.now cells c.args.row key here c.requires.table at within stops (λ e. c.if-number_in-ne0.true (c.number_in.ensures ∙ (sym (ap number_in number) ∙ e)))
+    kept-key c.args.keys.now c.args.bytes.now c.args.entries.now cells c.args.row key here c.requires.table at within stops (λ e. c.if-number_in-ne0.true (c.number_in.ensures ∙ (sym (ap number_below_tag number) ∙ e)))
 
 pub returns-clause-table : goal.returns-clause-table
 returns-clause-table c =
@@ -39,7 +39,7 @@ returns-clause-table c =
     let long = ap length c.in_ok-push.ensures.ok ∙ length-append entries _ in
     let next : c.len.result ≡ length entries + 1 = omega (arith, c.len.ensures, long) in
     let none : c.number_in.result ≡ 0 = omega (arith, c.if-number_in-ne0.false) in
-    let free : number_at cells at ≡ 0 = ap number_in number ∙ (sym c.number_in.ensures ∙ none) in
+    let free : number_at cells at ≡ 0 = ap number_below_tag number ∙ (sym c.number_in.ensures ∙ none) in
     let tag : tag_in c.cell_of.result ≡ tag_of key = c.cell_of.ensures.tag ∙ (c.tag_of.ensures ∙ ap (λ n. n % 2 ^ 32 / 2 ^ 23) c.hash_of-bits.ensures) in
     table-moved c.args.keys.now (c.args.row + 1) _ _ _ _ _ c.in_ok-push_key.ensures c.in_ok-push.ensures.ok
     (added-key c.args.keys.now c.args.bytes.now entries cells c.args.row key here c.requires.table at within stops free _ (omega (arith, c.len-start.ensures)) refl

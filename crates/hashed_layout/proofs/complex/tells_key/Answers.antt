@@ -2,7 +2,7 @@
 use Rattle.std.proofs.Common.{◌≡◌, ◌-◌, ◌∙◌, List, ap, arith, drop, refl, subst, sym}
 use Rattle.std.specs.Prelude.{IsTrue, ◌↔◌, ℕ}
 use Rattle.hashed_layout.specs.KeyBytes.{BeginsWithKey}
-use Rattle.hashed_layout.specs.KeyTables.{number_in, start_of}
+use Rattle.hashed_layout.specs.KeyTables.{number_below_tag, entry_start}
 use Rattle.hashed_layout.proofs.KeyTableLemmas.{begins-within, bytes-from, entry-read, told-by}
 use Rattle.hashed_layout.proofs.complex.tells_key.Goals as goal
 
@@ -11,12 +11,12 @@ returns-then-start-bytes c =
     let entries = c.args.entries.now in
     let bytes = c.args.bytes.now in
     let h = c.in-Some.ensures.lookup in
-    let here = entry-read entries entries (c.number_in.result - 1) (number_in c.args.cell - 1) c.in-Some.entry.now refl (ap (λ n. n - 1) c.number_in.ensures) h.3.0 h.1 in (
+    let here = entry-read entries entries (c.number_in.result - 1) (number_below_tag c.args.cell - 1) c.in-Some.entry.now refl (ap (λ n. n - 1) c.number_in.ensures) h.3.0 h.1 in (
       λ f. absurd (cc (f)),
       λ tells. absurd (
           let same : tells.1 ≡ c.in-Some.entry.now = cc (tells.2, here) in
-          let start : start_of tells.1 ≡ start_of c.in-Some.entry.now = ap start_of same in
-          let inside = begins-within bytes (start_of tells.1) c.args.key.now tells.3 in
+          let start : entry_start tells.1 ≡ entry_start c.in-Some.entry.now = ap entry_start same in
+          let inside = begins-within bytes (entry_start tells.1) c.args.key.now tells.3 in
           omega (arith, start, inside, c.start_of-start.ensures, c.if-start-bytes.true)),
     )
 
@@ -26,7 +26,7 @@ returns c =
     let bytes = c.args.bytes.now in
     let entry = c.in-Some.entry.now in
     let h = c.in-Some.ensures.lookup in
-    let here = entry-read entries entries (c.number_in.result - 1) (number_in c.args.cell - 1) entry refl (ap (λ n. n - 1) c.number_in.ensures) h.3.0 h.1 in
+    let here = entry-read entries entries (c.number_in.result - 1) (number_below_tag c.args.cell - 1) entry refl (ap (λ n. n - 1) c.number_in.ensures) h.3.0 h.1 in
     let whole = bytes-from bytes c.start_of-start.result ∙ ap (λ n. drop n bytes) c.start_of-start.ensures in
     let tag = sym c.tag_in.ensures ∙ (c.if-tag_in-tag.false ∙ c.requires.tag) in
     told-by entries bytes c.args.key.now c.args.cell entry c.begins_with_key.result tag here

@@ -2,7 +2,7 @@
 use Rattle.std.proofs.Common.{◌≡◌, List, length, inr, arith, subst, sym}
 use Rattle.ip_trie.specs.Below.{AreBelow}
 use Rattle.ip_trie.specs.Cells.{IsTrie}
-use Rattle.ip_trie.specs.Kept.{IsFilled}
+use Rattle.ip_trie.specs.Kept.{IsWholeTrie}
 use Rattle.ip_trie.specs.declared.cells.Cell.{Cell}
 use Rattle.ip_trie.proofs.Pruned.{below-within, cut-pruned, pruned-safe}
 use Rattle.ip_trie.proofs.Scans.{empty-trie}
@@ -18,7 +18,7 @@ pub rows_below-requires-clause-filled : goal.rows_below-requires-clause-filled
 rows_below-requires-clause-filled c =
     let leaves = c.args.leaves.now in
     let e : c.loop-row.row ≡ length leaves = omega arith in
-    subst (IsFilled leaves c.args.v6) (sym c.as_slice.ensures.value) (c.fill_table.ensures leaves c.args.v6 c.requires.leaves (subst (λ n. IsTrie leaves c.args.v6 n c.loop-row.cells.items) e c.loop-row.invariant.trie))
+    subst (IsWholeTrie leaves c.args.v6) (sym c.as_slice.ensures.value) (c.fill_table.ensures leaves c.args.v6 c.requires.leaves (subst (λ n. IsTrie leaves c.args.v6 n c.loop-row.cells.items) e c.loop-row.invariant.trie))
 
 pub cut_all-requires-clause-rows : goal.cut_all-requires-clause-rows
 cut_all-requires-clause-rows c =

@@ -2,7 +2,7 @@
 use Rattle.std.proofs.Common.{◌≡◌, ◌+◌, arith, subst, ap, ◌∙◌}
 use Rattle.ip_trie.specs.Cells.{digit, leaf_at, no_leaf}
 use Rattle.ip_trie.specs.declared.cells.Leaf.{Leaf}
-use Rattle.ip_trie.specs.steps.Growing.{Grows}
+use Rattle.ip_trie.specs.steps.Growing.{GrowsCells}
 use Rattle.ip_trie.proofs.Bits.{level-within}
 use Rattle.ip_trie.proofs.Grown.{way-more, way-room, way-start}
 use Rattle.ip_trie.proofs.Lists.{any-default}
@@ -47,6 +47,6 @@ loop-level-preserved c =
     c.digit_of.ensures.is ∙ ap (λ (e : Leaf). digit c.loop-level.level e.bits) (any-default leaves c.args.row _ no_leaf c.requires.row.0) in
     record {
       grown = way-more leaves c.args.v6 c.args.row c.loop-level.level c.loop-level.start c.in_ok-start.start c.loop-level.cells.items c.grow.new.cells.items c.requires.leaves c.requires.row (let l = c.requires.last in let t = c.loop-level-test.true in omega (arith, l, t)) c.loop-level.invariant.grown
-          (subst (λ k. Grows c.loop-level.cells.items (c.loop-level.start + k) c.grow.new.cells.items c.in_ok-start.start) bits c.in_ok-start.ensures.grows);
+          (subst (λ k. GrowsCells c.loop-level.cells.items (c.loop-level.start + k) c.grow.new.cells.items c.in_ok-start.start) bits c.in_ok-start.ensures.grows);
       room = let r = c.in_ok-start.ensures.room in let i = c.loop-level.invariant.room in omega (arith, r, i);
     }

@@ -1,6 +1,6 @@
 -- The cell of the table, and a cell of each level.
 use Rattle.std.proofs.Common.{◌≡◌, ◌≢◌, ◌+◌, ◌<◌, ◌≤◌, arith, subst, sym, ap, ◌∙◌}
-use Rattle.ip_trie.specs.Cells.{IsIn, digit, leaf_at, level_of, next_at, no_leaf, node, top}
+use Rattle.ip_trie.specs.Cells.{IsOfFamily, digit, leaf_at, level_of, next_at, no_leaf, node, top}
 use Rattle.ip_trie.specs.declared.cells.Leaf.{Leaf}
 use Rattle.ip_trie.proofs.Joined.{AreJoined, bucket-joined, level-joined, way-joined}
 use Rattle.ip_trie.proofs.Lists.{any-default, same-bool}
@@ -15,7 +15,7 @@ loop-level-init c =
     let t = c.requires.filled.trie in
     let bits = (leaf_at leaves row).bits in
     let e = any-default leaves row _ no_leaf c.requires.row in
-    let inside : IsIn leaves c.args.v6 row = (c.requires.row, sym (ap (λ (x : Leaf). x.v6) e) ∙ same-bool _ _ c.if-leaf-v6.false) in
+    let inside : IsOfFamily leaves c.args.v6 row = (c.requires.row, sym (ap (λ (x : Leaf). x.v6) e) ∙ same-bool _ _ c.if-leaf-v6.false) in
     let last : c.level_of-last.result ≡ level_of (leaf_at leaves row).len = c.level_of-last.ensures.is ∙ ap (λ (x : Leaf). level_of x.len) e in
     let most : 4 ≤ c.level_of-last.result = c.if-last-lt4.false in
     let deep : 4 ≤ level_of (leaf_at leaves row).len = omega (arith, last, most) in
@@ -39,7 +39,7 @@ loop-level-preserved c =
     let level = c.loop-level.level in
     let i = c.loop-level.invariant in
     let e = any-default leaves row _ no_leaf c.requires.row in
-    let inside : IsIn leaves c.args.v6 row = (c.requires.row, sym (ap (λ (x : Leaf). x.v6) e) ∙ same-bool _ _ c.if-leaf-v6.false) in
+    let inside : IsOfFamily leaves c.args.v6 row = (c.requires.row, sym (ap (λ (x : Leaf). x.v6) e) ∙ same-bool _ _ c.if-leaf-v6.false) in
     let last : c.level_of-last.result ≡ level_of (leaf_at leaves row).len = c.level_of-last.ensures.is ∙ ap (λ (x : Leaf). level_of x.len) e in
     let less : level < c.level_of-last.result = c.loop-level-test.true in
     let low : 4 ≤ level = c.loop-level.auto.level in

@@ -1,7 +1,7 @@
 -- A step for each level, and one for the only row below.
 use Rattle.std.proofs.Common.{◌≡◌, ◌≢◌, ◌+◌, ◌-◌, ◌*◌, ◌%◌, ◌<◌, ◌≤◌, ◌^◌, get_or, inl, inr, refl, arith, sym, ◌∙◌, ap, subst, rules}
 use Rattle.ip_trie.specs.Below.{IsPrunedNext}
-use Rattle.ip_trie.specs.Cells.{EndsAbove, TellsBest, blank, digit, next_at, node, row_at}
+use Rattle.ip_trie.specs.Cells.{EndsAbove, TellsBest, blank, digit, next_at, node, cell_row}
 use Rattle.ip_trie.specs.declared.cells.Cell.{Cell}
 use Rattle.ip_trie.proofs.Pruned.{follows-bucket, follows-cell, follows-node, follows-row, tells-last, whole-of}
 use Rattle.ip_trie.proofs.Scans.{cell-read, ended, ended-all, next-shared, step-row}
@@ -101,7 +101,7 @@ loop-level-preserved g c =
           let node_is = follows-node leaves v6 whole c.requires.leaves filled bits small l c.loop-level.cell.next below.1 told.0 in
           let there : node whole bits l ≢ 0 = λ z. below.0 (node_is ∙ z) in
           let here : node whole bits l + digit l bits ≡ at = let d = c.digit_of.ensures.is in let s = below.2 in omega (arith, node_is, d, s) in
-          let row : c.at-cell-in-Node.result.row ≡ row_at whole (node whole bits l + digit l bits) = sym (ap (λ (e : Cell). e.row) read) ∙ (pruned.rows at ∙ ap (row_at whole) (sym here)) in (
+          let row : c.at-cell-in-Node.result.row ≡ cell_row whole (node whole bits l + digit l bits) = sym (ap (λ (e : Cell). e.row) read) ∙ (pruned.rows at ∙ ap (cell_row whole) (sym here)) in (
             follows-cell leaves v6 whole c.requires.leaves filled bits small l at c.at-cell-in-Node.result.next low less there here (subst (IsPrunedNext leaves v6 whole at) next (pruned.nexts at)),
             step-row leaves v6 whole c.requires.leaves filled.trie bits small l c.loop-level.best c.better-best.result (get_or whole (node whole bits l + digit l bits) blank) less there refl (λ z. c.better-best.ensures.kept (row ∙ z)) (λ some. c.better-best.ensures.new (λ z. some (sym row ∙ z)) ∙ row) told.1,
           );

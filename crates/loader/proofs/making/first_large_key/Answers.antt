@@ -1,6 +1,6 @@
 use Rattle.std.proofs.Common.{◌<◌, length, arith, option_map, rules, slice_get}
 use Rattle.std.proofs.lemmas.List.{length-map}
-use Rattle.dict_version.specs.Keys.{number_in}
+use Rattle.dict_version.specs.Keys.{key_number}
 use Rattle.packed_rows.specs.Cells.{meaning}
 use Rattle.loader.proofs.LargeKeys.{below-all, below-more, key-here}
 use Rattle.loader.proofs.making.first_large_key.Goals as goal
@@ -17,5 +17,5 @@ loop-place-preserved c =
 pub returns : goal.returns
 returns c =
     let rows = c.args.rows.now in
-    let long = length-map rows (λ row. number_in (slice_get row 0)) in
+    let long = length-map rows (λ row. key_number (slice_get row 0)) in
     below-all rows c.args.limit c.loop-place.place c.loop-place.invariant (omega (arith, long, c.loop-place-test.false, c.len-place-end.ensures))

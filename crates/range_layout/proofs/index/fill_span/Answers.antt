@@ -1,7 +1,7 @@
 -- One border more, and the end of a key's borders.
 use Rattle.std.proofs.Common.{◌≡◌, ℕ, ◌%◌, ◌^◌, inl, inr, refl, sym, ◌∙◌, subst, arith, get_or, length}
 use Rattle.std.proofs.lemmas.Bool.{cases_lt}
-use Rattle.range_layout.specs.steps.Filling.{AddsEdge, number_at}
+use Rattle.range_layout.specs.steps.Filling.{AddsEdge, border_number}
 use Rattle.range_layout.proofs.Filling.{added-keeps, edges-added, key-borders, points-less}
 use Rattle.range_layout.proofs.Nths.{nth-is}
 use Rattle.range_layout.proofs.index.fill_span.Goals as goal
@@ -26,7 +26,7 @@ loop-at-preserved c =
       within = omega (arith, within);
       own = λ j a b. elim (cases_lt j at) [
         | inl less ↦ i.own j a less
-        | inr most ↦ let e : at ≡ j = omega (arith, most, b) in subst (λ (n : ℕ). number_at borders n ≡ c.args.number) e own
+        | inr most ↦ let e : at ≡ j = omega (arith, most, b) in subst (λ (n : ℕ). border_number borders n ≡ c.args.number) e own
       ];
       same = k.2;
       kept_edges = k.0;

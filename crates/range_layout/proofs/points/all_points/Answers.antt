@@ -2,7 +2,7 @@
 use Rattle.std.specs.Option.{option_to_list}
 use Rattle.std.specs.Prelude.{Contains, MatchOption}
 use Rattle.std.proofs.Common.{◌≡◌, ◌<◌, ◌^◌, ◌++◌, ◌∷◌, ℕ, Option, Some, None, length, ap, arith, length-append, below_more}
-use Rattle.range_layout.specs.Points.{low_point, past_point, range_at}
+use Rattle.range_layout.specs.Points.{low_point, past_point, ends_of_row}
 use Rattle.range_layout.proofs.Both.{both-second, length-both}
 use Rattle.range_layout.proofs.Rising.{grown-left, grown-right}
 use Rattle.range_layout.proofs.points.all_points.Goals as goal
@@ -21,13 +21,13 @@ loop-range-preserved c =
     let ends = c.args.ends.now in
     let at = c.loop-range.range-index in
     record {
-      low = below_more (λ row. Contains new (low_point (range_at ends row).low)) at
-          (λ row l. grown-left old both new (low_point (range_at ends row).low) is (i.low row l))
-          (grown-right old both new (low_point (range_at ends at).low) is (0, omega arith, c.low_point.ensures.is));
-      past = below_more (λ row. past_point (range_at ends row).high < 2 ^ 128 → Contains new (past_point (range_at ends row).high)) at
-          (λ row l small. grown-left old both new (past_point (range_at ends row).high) is (i.past row l small))
-          (λ small. grown-right old both new (past_point (range_at ends at).high) is
-          (both-second c.low_point.result c.past_point.result (past_point (range_at ends at).high) (past-is c.past_point.result (past_point (range_at ends at).high) c.past_point.ensures.is small)));
+      low = below_more (λ row. Contains new (low_point (ends_of_row ends row).low)) at
+          (λ row l. grown-left old both new (low_point (ends_of_row ends row).low) is (i.low row l))
+          (grown-right old both new (low_point (ends_of_row ends at).low) is (0, omega arith, c.low_point.ensures.is));
+      past = below_more (λ row. past_point (ends_of_row ends row).high < 2 ^ 128 → Contains new (past_point (ends_of_row ends row).high)) at
+          (λ row l small. grown-left old both new (past_point (ends_of_row ends row).high) is (i.past row l small))
+          (λ small. grown-right old both new (past_point (ends_of_row ends at).high) is
+          (both-second c.low_point.result c.past_point.result (past_point (ends_of_row ends at).high) (past-is c.past_point.result (past_point (ends_of_row ends at).high) c.past_point.ensures.is small)));
       len =
           let l = i.len in
           let m = length-both c.low_point.result c.past_point.result in

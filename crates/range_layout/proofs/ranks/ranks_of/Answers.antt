@@ -2,7 +2,7 @@
 use Rattle.std.specs.Prelude.{Contains}
 use Rattle.std.proofs.Common.{◌≡◌, ◌++◌, ◌∷◌, ℕ, zero, suc, [], inl, inr, sym, ◌∙◌, arith, rules, below_more}
 use Rattle.range_layout.specs.Stretches.{stretch_at, rank_of}
-use Rattle.range_layout.specs.Points.{range_at}
+use Rattle.range_layout.specs.Points.{ends_of_row}
 use Rattle.range_layout.proofs.Rising.{grown-cases, grown-left, grown-right}
 use Rattle.range_layout.proofs.ranks.ranks_of.Goals as goal
 
@@ -13,7 +13,7 @@ loop-row-preserved c =
     let rank = c.rank_of-rank.result in
     let new = c.push.new.self.items in
     let is : new ≡ old ++ rank ∷ [] = search rules in
-    let of : ℕ → ℕ = λ row. rank_of c.args.strategy (range_at c.args.ends.now row) (stretch_at c.args.stretches.now row) row in
+    let of : ℕ → ℕ = λ row. rank_of c.args.strategy (ends_of_row c.args.ends.now row) (stretch_at c.args.stretches.now row) row in
     record {
       each = below_more (λ row. Contains new (of row)) c.loop-row.row
           (λ row l. grown-left old (rank ∷ []) new (of row) is (i.each row l))

@@ -4,13 +4,13 @@ use Rattle.std.specs.Prelude.{Contains, MatchOption}
 use Rattle.std.proofs.Common.{◌≡◌, ◌<◌, ◌≤◌, ◌++◌, ◌∷◌, ℕ, List, Option, Some, None, length, inl, inr, sym, subst, ap, ◌∙◌, arith, length-append}
 use Rattle.std.proofs.lemmas.Bool.{cases_lt}
 use Rattle.std.proofs.lemmas.List.Elements.{Contains-append_cases, Contains-append_left, Contains-append_right}
-use Rattle.range_layout.specs.Stretches.{IsBorder, end_of, stretch_at, start_of}
+use Rattle.range_layout.specs.Stretches.{IsBorder, end_of, stretch_at, stretch_start}
 use Rattle.range_layout.specs.declared.stretches.Stretch.{Stretch}
 use Rattle.range_layout.proofs.Both.{both-second, in-both, length-both}
 use Rattle.range_layout.proofs.stretches.all_borders.Goals as goal
 
 -- the two borders of a row
-module _ (stretches : List Stretch) (count row start : ℕ) (inner : Option ℕ) (s : start ≡ start_of (stretch_at stretches row))
+module _ (stretches : List Stretch) (count row start : ℕ) (inner : Option ℕ) (s : start ≡ stretch_start (stretch_at stretches row))
     (o : MatchOption inner (count ≤ (stretch_at stretches row).high) (λ end. ((stretch_at stretches row).high < count) × (end ≡ end_of (stretch_at stretches row)))) where
   borders : (border : ℕ) → IsBorder stretches count row border → Contains (start ∷ option_to_list inner) border
   borders border (inl e) = (0, omega arith, s ∙ sym e)

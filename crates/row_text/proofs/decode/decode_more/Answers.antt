@@ -1,6 +1,6 @@
 use Rattle.std.proofs.Common.{◌≤◌, length, arith, Result}
 use Rattle.row_text.specs.declared.decode.DecodeFault.{DecodeFault}
-use Rattle.row_text.specs.Growing.{Adds}
+use Rattle.row_text.specs.Growing.{AddsRowsOf}
 use Rattle.row_text.proofs.Decoded.{handed-on}
 use Rattle.row_text.proofs.Growing.{more-fault, more-last, whole-paced}
 use Rattle.row_text.proofs.decode.decode_more.Goals as goal
@@ -11,7 +11,7 @@ returns-in_err-size-clause-adds g c =
     let old = c.args.rows.now.rows in
     let new = c.decode_whole.new.rows.rows in
     let fault : DecodeFault = c.in_err-size.field-0.0 in
-    handed-on (λ (a : Result (Unit {0}) DecodeFault). Adds c.args.format columns c.args.lines_before old c.args.text.now a new) c.from_residual.result fault c.from_residual.ensures.1
+    handed-on (λ (a : Result (Unit {0}) DecodeFault). AddsRowsOf c.args.format columns c.args.lines_before old c.args.text.now a new) c.from_residual.result fault c.from_residual.ensures.1
     (more-fault c.args.format columns c.args.text.now c.args.lines_before c.decode_whole.new.lines old new new fault c.in_err-size.ensures.adds)
 
 pub overflow_add-lines : goal.overflow_add-lines

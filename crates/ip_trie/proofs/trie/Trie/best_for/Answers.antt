@@ -1,6 +1,6 @@
 -- The best of the family's rows.
 use Rattle.std.proofs.Common.{◌≡◌, ◌⊎◌, ◌*◌, ◌%◌, ◌^◌, true, false, arith, subst, sym}
-use Rattle.ip_trie.specs.Cells.{Has, Shares, TellsBest}
+use Rattle.ip_trie.specs.Cells.{HasBits, Shares, TellsBest}
 use Rattle.ip_trie.proofs.RowPrefixes.{IsBits, found-none, found-some, in-common, long, short}
 use Rattle.ip_trie.proofs.trie.Trie.best_for.Goals as goal
 
@@ -9,14 +9,14 @@ returns-in-V4-clause-none g c = λ texts are z.
     let n = c.in-V4.bits in
     let b : c.from.result * 2 ^ 96 % 2 ^ 128 ≡ n * 2 ^ 96 = (let e = c.from.ensures in omega (arith, e)) in
     let of : IsBits c.args.address.now false (n * 2 ^ 96) = subst (λ a. IsBits a false (n * 2 ^ 96)) (sym c.in-V4.is) (short n) in
-    found-none texts c.args.self.now.leaves are.read c.args.address.now false (n * 2 ^ 96) of (subst (TellsBest c.args.self.now.leaves (Has c.args.self.now.leaves false (n * 2 ^ 96))) z (subst (λ k. TellsBest c.args.self.now.leaves (Has c.args.self.now.leaves false k) c.found_in.result) b (c.found_in.ensures.found false are.v4)))
+    found-none texts c.args.self.now.leaves are.read c.args.address.now false (n * 2 ^ 96) of (subst (TellsBest c.args.self.now.leaves (HasBits c.args.self.now.leaves false (n * 2 ^ 96))) z (subst (λ k. TellsBest c.args.self.now.leaves (HasBits c.args.self.now.leaves false k) c.found_in.result) b (c.found_in.ensures.found false are.v4)))
 
 pub returns-in-V4-clause-some : goal.returns-in-V4-clause-some
 returns-in-V4-clause-some g c = λ texts are some.
     let n = c.in-V4.bits in
     let b : c.from.result * 2 ^ 96 % 2 ^ 128 ≡ n * 2 ^ 96 = (let e = c.from.ensures in omega (arith, e)) in
     let of : IsBits c.args.address.now false (n * 2 ^ 96) = subst (λ a. IsBits a false (n * 2 ^ 96)) (sym c.in-V4.is) (short n) in
-    found-some texts c.args.self.now.leaves are.read c.args.address.now false (n * 2 ^ 96) of c.found_in.result some (subst (λ k. TellsBest c.args.self.now.leaves (Has c.args.self.now.leaves false k) c.found_in.result) b (c.found_in.ensures.found false are.v4))
+    found-some texts c.args.self.now.leaves are.read c.args.address.now false (n * 2 ^ 96) of c.found_in.result some (subst (λ k. TellsBest c.args.self.now.leaves (HasBits c.args.self.now.leaves false k) c.found_in.result) b (c.found_in.ensures.found false are.v4))
 
 pub returns-in-V4-clause-steps : goal.returns-in-V4-clause-steps
 returns-in-V4-clause-steps g c = λ texts are.
@@ -30,7 +30,7 @@ pub returns-in-V6-clause-none : goal.returns-in-V6-clause-none
 returns-in-V6-clause-none g c = λ texts are z.
     let n = c.in-V6.bits in
     let of : IsBits c.args.address.now true n = subst (λ a. IsBits a true n) (sym c.in-V6.is) (long n) in
-    found-none texts c.args.self.now.leaves are.read c.args.address.now true n of (subst (TellsBest c.args.self.now.leaves (Has c.args.self.now.leaves true n)) z (c.found_in-in-V6.ensures.found true are.v6))
+    found-none texts c.args.self.now.leaves are.read c.args.address.now true n of (subst (TellsBest c.args.self.now.leaves (HasBits c.args.self.now.leaves true n)) z (c.found_in-in-V6.ensures.found true are.v6))
 
 pub returns-in-V6-clause-some : goal.returns-in-V6-clause-some
 returns-in-V6-clause-some g c = λ texts are some.

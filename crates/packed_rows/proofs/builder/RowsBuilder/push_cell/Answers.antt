@@ -2,7 +2,7 @@ use Rattle.std.proofs.Common.{◌≡◌, ◌<◌, length, arith, sym, subst, rul
 use Rattle.std.specs.Prelude.{slice_get}
 use Rattle.std.proofs.lemmas.Option.{slice_get_read}
 use Rattle.packed_rows.specs.Cells.{meaning}
-use Rattle.packed_rows.specs.Widths.{limit_of, width_of}
+use Rattle.packed_rows.specs.Widths.{limit_of, cell_width}
 use Rattle.packed_rows.proofs.Packing.{cell-added, cell-packed, fits-here, nulls-few, number-limit, open-place, types-length}
 use Rattle.packed_rows.proofs.builder.RowsBuilder.push_cell.Goals as goal
 
@@ -32,7 +32,7 @@ grow-requires c =
     slice_get_read cs (length cs) c.self.inside.place c.index_mut-column.result.now refl (omega (arith, at, of, c.requires.room)) c.index_mut-column.ensures.value in
     let fits = fits-here cs c.self.inside.text c.self.inside.rows c.self.inside.place c.args.self.now c.index_mut-column.result.now (meaning c.args.cell.now) c.self.view_is c.self.invariant here c.requires.fits in
     record {
-      fits = subst (λ n. n < limit_of (width_of c.index_mut-column.result.now.ty.base)) (sym c.number_of-number.ensures)
+      fits = subst (λ n. n < limit_of (cell_width c.index_mut-column.result.now.ty.base)) (sym c.number_of-number.ensures)
           (number-limit cs c.self.inside.text c.self.inside.rows c.self.inside.place c.len-end.result (meaning c.args.cell.now) c.index_mut-column.result.now c.self.invariant here fits c.len-end.type_inv);
       few = nulls-few cs c.self.inside.text c.self.inside.rows c.self.inside.place c.args.self.now c.index_mut-column.result.now c.self.view_is c.self.invariant here c.requires.few;
     }
