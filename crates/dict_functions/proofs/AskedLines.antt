@@ -5,7 +5,7 @@ use Rattle.std.proofs.lemmas.List.Elements.{All-cons, All-nil}
 use Rattle.std.proofs.lemmas.Slice.Zip.{AllZip-long}
 use Rattle.dict_value.specs.declared.value.Field.{Field}
 use Rattle.row_text.specs.TabRow.{IsTabRow}
-use Rattle.wire_text.specs.Requests.{AsksFor, IsVerbHead as IsLookupHead, asked_above}
+use Rattle.wire_text.specs.Requests.{AsksFor, IsVerbHead, asked_above}
 use Rattle.wire_text.specs.declared.request.Asked.{Asked}
 use Rattle.wire_text.specs.declared.request.Request.{Request}
 use Rattle.wire_text.specs.declared.request.Request.TheVariants as request
@@ -26,12 +26,12 @@ HasLinesOf count _ = ⊤
 
 -- the head of a lookup asks for no hierarchy
 no_hierarchy : (head : List Field) (v : Verb) (name attribute : List ℕ) (fallback : Field)
-    → IsLookupHead head v name attribute fallback → IsTrue (asks_hierarchy v) → ⊥
-no_hierarchy head v name attribute fallback (IsLookupHead.get n a) is = cc
-no_hierarchy head v name attribute fallback (IsLookupHead.get_or_default n a f) is = cc
-no_hierarchy head v name attribute fallback (IsLookupHead.get_or_null n a) is = cc
-no_hierarchy head v name attribute fallback (IsLookupHead.has n) is = cc
-no_hierarchy head v name attribute fallback (IsLookupHead.call n) is = cc
+    → IsVerbHead head v name attribute fallback → IsTrue (asks_hierarchy v) → ⊥
+no_hierarchy head v name attribute fallback (IsVerbHead.get n a) is = cc
+no_hierarchy head v name attribute fallback (IsVerbHead.get_or_default n a f) is = cc
+no_hierarchy head v name attribute fallback (IsVerbHead.get_or_null n a) is = cc
+no_hierarchy head v name attribute fallback (IsVerbHead.has n) is = cc
+no_hierarchy head v name attribute fallback (IsVerbHead.call n) is = cc
 
 one_line : (P : List Field → Type 0) (keys : List Field) → P keys → All P (keys ∷ [])
 one_line P keys here = All-cons P keys [] here (All-nil P)

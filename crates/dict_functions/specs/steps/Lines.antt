@@ -14,7 +14,7 @@ use Rattle.dict_value.specs.declared.value.Value.{Value}
 use Rattle.dict_version.specs.Contents.{Contents}
 use Rattle.dict_version.specs.Keys.{NamesParent, numbers_of, parents_of}
 use Rattle.dict_version.specs.Lookups.{Finds}
-use Rattle.dict_version.specs.Printed.{IsCellOf as StandsInColumn}
+use Rattle.dict_version.specs.Printed.{IsCellOf}
 use Rattle.dict_version.specs.declared.key.Key.TheVariants as key
 use Rattle.dict_version.specs.declared.lookup.LookupBy.{LookupBy}
 use Rattle.dict_version.specs.declared.lookup.LookupBy.TheVariants as by
@@ -32,7 +32,7 @@ use Rattle.dict_functions.specs.Answers.{IsLoadedLine}
 use Rattle.dict_functions.specs.Asking.{IsAttributeNamed}
 use Rattle.dict_functions.specs.Keyed.{fetched_place}
 use Rattle.dict_functions.specs.Refusals.{IsFitting, IsRefusal}
-use Rattle.dict_functions.specs.Values.{AnswersVerb, IsAttributeText, IsCellText, IsCellOf}
+use Rattle.dict_functions.specs.Values.{AnswersVerb, IsAttributeText, IsCellText, StandsIn}
 use Rattle.dict_functions.specs.declared.asking.Attribute.{Attribute}
 use Rattle.dict_functions.specs.declared.lines.LineFault.{LineFault}
 use Rattle.dict_functions.specs.declared.lines.LineFault.TheVariants as one
@@ -63,7 +63,7 @@ pub record IsAttributeOf (d : Definition) (q : Asked) (attribute : Attribute) : 
   pub column : Column
   pub value : Value
   pub named : IsAttributeNamed d q.attribute attribute.place column
-  pub stands : IsCellOf q.verb column q.fallback value
+  pub stands : StandsIn q.verb column q.fallback value
   pub missing : attribute.missing ≡ printed column.ty.base value
 
 -- the attribute that is asked for, its column, and its place in a fetched row
@@ -134,7 +134,7 @@ IsCellFor c column number cell =
 
 -- the cell, if any, stands in the column of some row
 abbrev pub MayStand : Contents → ℕ → Option Cell → Type 0
-MayStand c column cell = IfSome cell (λ x. StandsInColumn c.rows column (meaning x))
+MayStand c column cell = IfSome cell (λ x. IsCellOf c.rows column (meaning x))
 
 -- the text of the attribute for each row whose cell this is, or for none
 abbrev pub HasTextOf : Contents → Asked → Attribute → ℕ → Option Cell → List ℕ → Type 0
